@@ -1,0 +1,74 @@
+-- Laws of finite sums in a commutative ring.
+use Rattle.std.specs.Prelude.{◌≡◌, ◌≢◌, ℕ, zero, suc, ◌<◌, pos, ◌⊎◌, [], ◌∷◌}
+use Rattle.std.proofs.Common.{arith, sym, ◌∙◌, ap, ap₂, refl, inl, inr}
+use Rattle.commutative_ring.specs.SumOf.{sum_of}
+use Rattle.commutative_ring.proofs.Ring.{CommutativeRing, ring_in, num, ◌⊕◌, ◌⊗◌, v0, v1, v2, v3}
+
+module _ {A : Type 0} (R : CommutativeRing A) where
+  abbrev pub total : ℕ → (ℕ → A) → A
+  total n f = sum_of (R.of_int (pos 0)) R.add n f
+
+  pub total-zero : (f : ℕ → A) → total 0 f ≡ R.of_int (pos 0)
+  unfolding sum_of
+  total-zero f = refl
+
+  pub total-suc : (n : ℕ) (f : ℕ → A) → total (suc n) f ≡ R.add (total n f) (f n)
+  unfolding sum_of
+  total-suc n f = refl
+
+  pub total_same : (n : ℕ) (f g : ℕ → A) → ((k : ℕ) → k < n → f k ≡ g k) → total n f ≡ total n g
+  total_same zero f g h = total-zero f ∙ sym (total-zero g)
+  total_same (suc n) f g h =
+      total-suc n f
+      ∙ ap₂ R.add (total_same n f g (λ k l. h k (omega arith))) (h n (omega arith))
+      ∙ sym (total-suc n g)
+
+  pub total_none : (n : ℕ) (f : ℕ → A) → ((k : ℕ) → k < n → f k ≡ R.of_int (pos 0)) → total n f ≡ R.of_int (pos 0)
+  total_none zero f h = total-zero f
+  total_none (suc n) f h = total-suc n f ∙ ap₂ R.add (total_none n f (λ k l. h k (omega arith))) (h n (omega arith)) ∙ R.zero_add (R.of_int (pos 0))
+
+  pub total-add : (n : ℕ) (f g : ℕ → A) → total n (λ k. R.add (f k) (g k)) ≡ R.add (total n f) (total n g)
+  total-add zero f g = total-zero _ ∙ sym (ap₂ R.add (total-zero f) (total-zero g) ∙ R.zero_add (R.of_int (pos 0)))
+  total-add (suc n) f g =
+      total-suc n (λ k. R.add (f k) (g k))
+      ∙ ap (λ w. R.add w (R.add (f n) (g n))) (total-add n f g)
+      ∙ ring_in R (total n f ∷ total n g ∷ f n ∷ g n ∷ []) ((v0 ⊕ v1) ⊕ (v2 ⊕ v3)) ((v0 ⊕ v2) ⊕ (v1 ⊕ v3)) refl
+      ∙ sym (ap₂ R.add (total-suc n f) (total-suc n g))
+
+  pub mul-total : (c : A) (n : ℕ) (f : ℕ → A) → R.mul c (total n f) ≡ total n (λ k. R.mul c (f k))
+  mul-total c zero f = ap (λ w. R.mul c w) (total-zero f) ∙ ring_in R (c ∷ []) (v0 ⊗ num (pos 0)) (num (pos 0)) refl ∙ sym (total-zero _)
+  mul-total c (suc n) f =
+      ap (λ w. R.mul c w) (total-suc n f)
+      ∙ ring_in R (c ∷ total n f ∷ f n ∷ []) (v0 ⊗ (v1 ⊕ v2)) (v0 ⊗ v1 ⊕ v0 ⊗ v2) refl
+      ∙ ap (λ w. R.add w (R.mul c (f n))) (mul-total c n f)
+      ∙ sym (total-suc n (λ k. R.mul c (f k)))
+
+  pub total_swap : (m n : ℕ) (f : ℕ → ℕ → A) → total m (λ i. total n (λ j. f i j)) ≡ total n (λ j. total m (λ i. f i j))
+  total_swap zero n f = total-zero _ ∙ sym (total_none n _ (λ k l. total-zero _))
+  total_swap (suc m) n f =
+      total-suc m _
+      ∙ ap (λ w. R.add w (total n (λ j. f m j))) (total_swap m n f)
+      ∙ sym (total-add n (λ j. total m (λ i. f i j)) (λ j. f m j))
+      ∙ total_same n _ _ (λ k l. sym (total-suc m (λ i. f i k)))
+
+  -- two sums that differ in one term
+  pub total_but_one : (n : ℕ) (f g : ℕ → A) (i : ℕ) → i < n → ((k : ℕ) → k < n → k ≢ i → f k ≡ g k) → R.add (total n f) (g i) ≡ R.add (total n g) (f i)
+  total_but_one zero f g i l h = absurd (omega arith)
+  total_but_one (suc n) f g i l h =
+      by (last_or_before i n l) (λ b. total_but_one n f g i b (λ k m ne. h k (omega arith) ne))
+    where
+      last_or_before : (i n : ℕ) → i < suc n → (i ≡ n) ⊎ (i < n)
+      last_or_before i n l = grind arith
+
+      by : ((i ≡ n) ⊎ (i < n)) → (i < n → R.add (total n f) (g i) ≡ R.add (total n g) (f i)) → R.add (total (suc n) f) (g i) ≡ R.add (total (suc n) g) (f i)
+      by (inl e) step =
+          ap₂ (λ x y. R.add x y) (total-suc n f ∙ ap (λ k. R.add (total n f) (f k)) (sym e)) refl
+          ∙ ap (λ w. R.add (R.add w (f i)) (g i)) (total_same n f g (λ k m. h k (omega arith) (omega arith)))
+          ∙ ring_in R (total n g ∷ f i ∷ g i ∷ []) (v0 ⊕ v1 ⊕ v2) (v0 ⊕ v2 ⊕ v1) refl
+          ∙ sym (ap (λ w. R.add w (f i)) (total-suc n g ∙ ap (λ k. R.add (total n g) (g k)) (sym e)))
+      by (inr b) step =
+          ap (λ w. R.add w (g i)) (total-suc n f)
+          ∙ ring_in R (total n f ∷ f n ∷ g i ∷ []) (v0 ⊕ v1 ⊕ v2) ((v0 ⊕ v2) ⊕ v1) refl
+          ∙ ap₂ R.add (step b) (h n (omega arith) (omega arith))
+          ∙ ring_in R (total n g ∷ f i ∷ g n ∷ []) ((v0 ⊕ v1) ⊕ v2) (v0 ⊕ v2 ⊕ v1) refl
+          ∙ sym (ap (λ w. R.add w (f i)) (total-suc n g))

@@ -1,0 +1,5 @@
+pub mod Sums
+pub mod Forms
+pub mod Slacks
+pub mod Rational
+pub mod Tableau

@@ -1,0 +1,49 @@
+-- Rational numbers in lowest terms.
+use Rattle.std.specs.Prelude.{ℕ, zero, suc, ℤ, pos, negsuc, neg_ℤ, nat_abs, ◌*◌, ◌/◌, ◌+ℤ◌, ◌*ℤ◌, ◌≤ℤ◌, ◌<ℤ◌, T, ltb, eqb}
+use Rattle.commutative_ring.specs.Gcd.{gcd_of}
+use Rattle.commutative_ring.proofs.Lowest.{divided, part_positive, part_lowest}
+
+pub record Rational : Type 0 where
+  pub num : ℤ
+  pub den : ℕ
+  pub positive : T (ltb 0 den)
+  pub lowest : T (eqb (gcd_of (nat_abs num) den) 1)
+
+-- p over d, in lowest terms. Over 0 it is taken as over 1
+unfoldable pub ratio : ℤ → ℕ → Rational
+ratio p zero = record { num = divided p (gcd_of (nat_abs p) 1); den = 1 / gcd_of (nat_abs p) 1; positive = part_positive (nat_abs p) 0; lowest = part_lowest p 0 }
+ratio p (suc d) = record { num = divided p (gcd_of (nat_abs p) (suc d)); den = suc d / gcd_of (nat_abs p) (suc d); positive = part_positive (nat_abs p) d; lowest = part_lowest p d }
+
+infixl 6 ◌+ℚ◌ ◌-ℚ◌
+infixl 7 ◌*ℚ◌
+infix 50 ◌≤ℚ◌ ◌<ℚ◌
+unfoldable pub whole : ℤ → Rational
+whole z = ratio z 1
+
+unfoldable pub ◌+ℚ◌ : Rational → Rational → Rational
+x +ℚ y = ratio (x.num *ℤ pos y.den +ℤ y.num *ℤ pos x.den) (x.den * y.den)
+
+unfoldable pub ◌*ℚ◌ : Rational → Rational → Rational
+x *ℚ y = ratio (x.num *ℤ y.num) (x.den * y.den)
+
+unfoldable pub neg_ℚ : Rational → Rational
+neg_ℚ x = ratio (neg_ℤ x.num) x.den
+
+unfoldable pub ◌-ℚ◌ : Rational → Rational → Rational
+x -ℚ y = x +ℚ neg_ℚ y
+
+-- 1/p times d, and 0 for 1/0
+unfoldable pub inverse : ℤ → ℕ → Rational
+inverse (pos zero) d = whole (pos 0)
+inverse (pos (suc n)) d = ratio (pos d) (suc n)
+inverse (negsuc n) d = ratio (neg_ℤ (pos d)) (suc n)
+
+unfoldable pub ◌/ℚ◌ : Rational → Rational → Rational
+x /ℚ y = x *ℚ inverse y.num y.den
+
+infixl 7 ◌/ℚ◌
+abbrev pub ◌≤ℚ◌ : Rational → Rational → Type 0
+x ≤ℚ y = (x.num *ℤ pos y.den) ≤ℤ (y.num *ℤ pos x.den)
+
+abbrev pub ◌<ℚ◌ : Rational → Rational → Type 0
+x <ℚ y = (x.num *ℤ pos y.den) <ℤ (y.num *ℤ pos x.den)
