@@ -6,3 +6,4 @@ pub mod Rational
 pub mod Tableau
 pub mod RationalOrder
 pub mod Perfect
+pub mod Lowest

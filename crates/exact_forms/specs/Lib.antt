@@ -3,3 +3,4 @@ pub mod Forms
 pub mod Slacks
 pub mod Rational
 pub mod Tableau
+pub mod Lowest
