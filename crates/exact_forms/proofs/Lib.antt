@@ -7,3 +7,8 @@ pub mod Rational
 pub mod Tableau
 pub mod RationalOrder
 pub mod Perfect
+pub mod Signs
+pub mod Triangles
+pub mod Vectors
+pub mod Copositive
+pub mod Factors

@@ -1,32 +1,20 @@
 -- An exchange keeps a tableau's columns.
-use Rattle.std.specs.Prelude.{◌≡◌, ◌≢◌, ℕ, ◌<◌, pos, negsuc, ◌⊎◌, List, [], ◌∷◌, cond, eqb, Bool, true, false}
+use Rattle.std.specs.Prelude.{◌≡◌, ◌≢◌, ℕ, ◌<◌, pos, negsuc, ◌⊎◌, [], ◌∷◌, cond, eqb, Bool, true, false}
 use Rattle.std.proofs.Common.{arith, sym, ◌∙◌, ap, ap₂, refl, inl, inr}
-use Rattle.commutative_ring.proofs.Ring.{ring_in, normal, value, at, Expr, num, ◌⊕◌, ◌⊗◌, neg, v0, v1, v2, v3}
+use Rattle.commutative_ring.proofs.Ring.{num, ◌⊕◌, ◌⊗◌, neg, v0, v1, v2, v3}
 use Rattle.exact_forms.specs.Slacks.{replaced}
 use Rattle.exact_forms.specs.Rational.{Rational, whole, inverse, neg_ℚ, ◌+ℚ◌, ◌*ℚ◌, ◌-ℚ◌, ◌/ℚ◌}
 use Rattle.exact_forms.specs.Sums.{sum_ℚ}
 use Rattle.exact_forms.proofs.RationalSums.{sum_ℚ_same, sum_ℚ-add, mul-sum_ℚ, sum_ℚ_but_one}
 use Rattle.exact_forms.specs.Tableau.{AreCoordinates, IsIndependent, IsTableau, exchanged}
-use Rattle.exact_forms.proofs.Rational.{rational_ring, mul-inverse, one_mul_ℚ, zero_mul_ℚ}
+use Rattle.exact_forms.proofs.Rational.{ring_ℚ, div-mul, mul-inverse, one_mul_ℚ, zero_mul_ℚ}
 use Rattle.exact_forms.proofs.Slacks.{replaced_here, replaced_other, same_or_not}
-
--- an identity of polynomials over ℚ
-pub ring_ℚ : (xs : List Rational) (e f : Expr) → normal e ≡ normal f → value rational_ring (at rational_ring xs) e ≡ value rational_ring (at rational_ring xs) f
-ring_ℚ xs e f same_form = ring_in rational_ring xs e f same_form
 
 exchanged_here : (t : ℕ → ℕ → Rational) (r c i j : ℕ) → i ≡ r → exchanged t r c i j ≡ t r j /ℚ t r c
 exchanged_here t r c i j e = let b : eqb i r ≡ true = grind arith in ap (λ (b : Bool). cond b (t r j /ℚ t r c) (t i j -ℚ t i c *ℚ (t r j /ℚ t r c))) b
 
 exchanged_other : (t : ℕ → ℕ → Rational) (r c i j : ℕ) → i ≢ r → exchanged t r c i j ≡ t i j -ℚ t i c *ℚ (t r j /ℚ t r c)
 exchanged_other t r c i j e = let b : eqb i r ≡ false = grind arith in ap (λ (b : Bool). cond b (t r j /ℚ t r c) (t i j -ℚ t i c *ℚ (t r j /ℚ t r c))) b
-
--- x/y times y
-pub div-mul : (x y : Rational) → y ≢ whole (pos 0) → (x /ℚ y) *ℚ y ≡ x
-unfolding ◌/ℚ◌
-div-mul x y ne =
-    ring_ℚ (x ∷ inverse y.num y.den ∷ y ∷ []) (v0 ⊗ v1 ⊗ v2) ((v2 ⊗ v1) ⊗ v0) refl
-    ∙ ap (λ w. w *ℚ x) (mul-inverse y ne)
-    ∙ one_mul_ℚ x
 
 pub exchange_keeps : (places n : ℕ) (columns : ℕ → ℕ → Rational) (t : ℕ → ℕ → Rational) (basic : ℕ → ℕ) (r c : ℕ) → r < n → t r c ≢ whole (pos 0)
     → IsTableau places n columns t basic → IsTableau places n columns (exchanged t r c) (replaced basic r c)
