@@ -1,5 +1,5 @@
 -- Laws of factorizations, and that no factorization stands beside a separation.
-use Rattle.std.specs.Prelude.{◌≡◌, ℕ, suc, ◌*◌, ◌<◌, ℤ, pos, ◌*ℤ◌, List, [], ◌∷◌, ◌++◌, length}
+use Rattle.std.specs.Prelude.{◌≡◌, ℕ, suc, ◌*◌, ◌<◌, ℤ, pos, ◌*ℤ◌, List, [], ◌∷◌, ◌++◌, length, slice_index_or}
 use Rattle.commutative_ring.proofs.Expand.{expand}
 use Rattle.std.proofs.Common.{arith, sym, ◌∙◌, ap, ap₂, refl, subst}
 use Rattle.std.proofs.lemmas.Int.{ints}
@@ -13,7 +13,7 @@ use Rattle.exact_forms.specs.Vectors.{coordinate, IsNonzero}
 use Rattle.exact_forms.specs.Copositive.{Matrix, IsCopositive}
 use Rattle.exact_forms.specs.Factors.{WeightedVector, weighted_sum, pairing, IsFactorization, Separates}
 use Rattle.exact_forms.proofs.Rational.{ring_ℚ, whole-mul, mul-ratio, ratio_same}
-use Rattle.exact_forms.proofs.RationalSums.{sums_ℚ_same, sums_ℚ-add, mul-sums_ℚ, sum_ℚ_none, whole-sums}
+use Rattle.exact_forms.proofs.RationalSums.{sum_ℚ-zero, sum_ℚ_head, sums_ℚ_same, sums_ℚ-add, mul-sums_ℚ, sum_ℚ_none, whole-sums}
 use Rattle.exact_forms.proofs.Forms.{form_is_inner}
 use Rattle.exact_forms.proofs.Order.{one_le_square}
 use Rattle.exact_forms.proofs.Signs.{positive_nonneg, nonneg_add, nonneg_product, positive_add, positive_product, whole_nonneg, whole_positive, nonneg_zero, zero_nonneg, negative_not_nonneg, positive_not_zero}
@@ -44,6 +44,15 @@ weighted_sum_push terms term i j =
     weighted_sum-append terms (term ∷ []) i j
     ∙ ap (λ w. weighted_sum terms i j +ℚ w) (weighted_sum-cons term [] i j ∙ ap (λ w. term.weight *ℚ whole (coordinate term.vector i *ℤ coordinate term.vector j) +ℚ w) (weighted_sum-nil i j))
     ∙ ring_ℚ (weighted_sum terms i j ∷ (term.weight *ℚ whole (coordinate term.vector i *ℤ coordinate term.vector j)) ∷ []) (v0 ⊕ (v1 ⊕ num (pos 0))) (v0 ⊕ v1) refl
+
+-- by the terms' places
+pub weighted_sum_by_places : (terms : List WeightedVector) (d : WeightedVector) (i j : ℕ)
+    → weighted_sum terms i j ≡ sum_ℚ (length terms) (λ k. (slice_index_or terms k d).weight *ℚ whole (coordinate (slice_index_or terms k d).vector i *ℤ coordinate (slice_index_or terms k d).vector j))
+weighted_sum_by_places [] d i j = weighted_sum-nil i j ∙ sym (sum_ℚ-zero _)
+weighted_sum_by_places (term ∷ terms) d i j =
+    weighted_sum-cons term terms i j
+    ∙ ap (λ w. term.weight *ℚ whole (coordinate term.vector i *ℤ coordinate term.vector j) +ℚ w) (weighted_sum_by_places terms d i j)
+    ∙ sym (sum_ℚ_head (length terms) (λ k. (slice_index_or (term ∷ terms) k d).weight *ℚ whole (coordinate (slice_index_or (term ∷ terms) k d).vector i *ℤ coordinate (slice_index_or (term ∷ terms) k d).vector j)))
 
 -- ---- the pairing
 pub pairing_is : (n : ℕ) (w : Matrix) (a : ℕ → ℕ → Rational) → pairing n w a ≡ sum_ℚ n (λ i. sum_ℚ n (λ j. whole (w i j) *ℚ a i j))

@@ -4,7 +4,6 @@ pub mod Forms
 pub mod Order
 pub mod Slacks
 pub mod Rational
-pub mod Tableau
 pub mod RationalOrder
 pub mod Perfect
 pub mod Signs
@@ -12,3 +11,8 @@ pub mod Triangles
 pub mod Vectors
 pub mod Copositive
 pub mod Factors
+pub mod Lexicographic
+pub mod Coordinates
+pub mod Denominators
+pub mod Shown
+pub mod RankOne
