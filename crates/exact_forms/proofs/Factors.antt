@@ -12,8 +12,8 @@ use Rattle.exact_forms.specs.Signs.{IsPositive, IsNegative, IsNonnegative}
 use Rattle.exact_forms.specs.Vectors.{coordinate, IsNonzero}
 use Rattle.exact_forms.specs.Copositive.{Matrix, IsCopositive}
 use Rattle.exact_forms.specs.Factors.{WeightedVector, weighted_sum, pairing, IsFactorization, Separates}
-use Rattle.exact_forms.proofs.Rational.{ring_ℚ, whole-mul, mul-ratio, ratio_same}
-use Rattle.exact_forms.proofs.RationalSums.{sum_ℚ-zero, sum_ℚ_head, sums_ℚ_same, sums_ℚ-add, mul-sums_ℚ, sum_ℚ_none, whole-sums}
+use Rattle.exact_forms.proofs.Rational.{ring_ℚ, zero_mul_ℚ, whole-mul, mul-ratio, ratio_same}
+use Rattle.exact_forms.proofs.RationalSums.{sum_ℚ_same, sum_ℚ_swap, mul-sum_ℚ, sum_ℚ-zero, sum_ℚ_head, sums_ℚ_same, sums_ℚ-add, mul-sums_ℚ, sum_ℚ_none, whole-sums}
 use Rattle.exact_forms.proofs.Forms.{form_is_inner}
 use Rattle.exact_forms.proofs.Order.{one_le_square}
 use Rattle.exact_forms.proofs.Signs.{positive_nonneg, nonneg_add, nonneg_product, positive_add, positive_product, whole_nonneg, whole_positive, nonneg_zero, zero_nonneg, negative_not_nonneg, positive_not_zero}
@@ -83,6 +83,35 @@ pairing-whole n w s = sums_ℚ_same n n _ _ (λ i j li lj. sym (whole-mul (w i j
 -- at xxᵗ it is W[x]
 pub pairing_of_square : (n : ℕ) (w : Matrix) (x : ℕ → ℤ) → pairing n w (λ i j. whole (x i *ℤ x j)) ≡ whole (form n w x)
 pairing_of_square n w x = pairing-whole n w (λ i j. x i *ℤ x j) ∙ ap whole (sym (form_is_inner n w x))
+
+-- the value of a combination
+pub pairing_of_combination : (n m : ℕ) (w : Matrix) (c : ℕ → Rational) (e : ℕ → ℕ → ℕ → Rational) (x : ℕ → ℕ → Rational)
+    → ((i j : ℕ) → i < n → j < n → sum_ℚ m (λ k. c k *ℚ e k i j) ≡ x i j) → pairing n w x ≡ sum_ℚ m (λ k. c k *ℚ pairing n w (e k))
+unfolding pairing
+pairing_of_combination n m w c e x h =
+    sum_ℚ_same n _ _ (λ i li.
+    sum_ℚ_same n _ _ (λ j lj.
+    ap (λ y. whole (w i j) *ℚ y) (sym (h i j li lj))
+    ∙ mul-sum_ℚ (whole (w i j)) m (λ k. c k *ℚ e k i j)
+    ∙ sum_ℚ_same m _ (λ k. c k *ℚ (whole (w i j) *ℚ e k i j)) (λ k lk. ring_ℚ (whole (w i j) ∷ c k ∷ e k i j ∷ []) (v0 ⊗ (v1 ⊗ v2)) (v1 ⊗ (v0 ⊗ v2)) refl))
+    ∙ sum_ℚ_swap n m (λ j k. c k *ℚ (whole (w i j) *ℚ e k i j)))
+    ∙ sum_ℚ_swap n m (λ i k. sum_ℚ n (λ j. c k *ℚ (whole (w i j) *ℚ e k i j)))
+    ∙ sum_ℚ_same m _ _ (λ k lk. sym (mul-sums_ℚ (c k) n n (λ i j. whole (w i j) *ℚ e k i j)))
+
+pub pairing_times : (n : ℕ) (w : Matrix) (t : Rational) (x : ℕ → ℕ → Rational) → pairing n w (λ i j. t *ℚ x i j) ≡ t *ℚ pairing n w x
+unfolding pairing
+pairing_times n w t x =
+    sums_ℚ_same n n _ _ (λ i j li lj. ring_ℚ (whole (w i j) ∷ t ∷ x i j ∷ []) (v0 ⊗ (v1 ⊗ v2)) (v1 ⊗ (v0 ⊗ v2)) refl)
+    ∙ sym (mul-sums_ℚ t n n (λ i j. whole (w i j) *ℚ x i j))
+
+-- of the zero matrix
+pub pairing_zero : (n : ℕ) (w : Matrix) (x : ℕ → ℕ → Rational) → ((i j : ℕ) → i < n → j < n → w i j ≡ pos 0) → pairing n w x ≡ whole (pos 0)
+unfolding pairing
+pairing_zero n w x h = sum_ℚ_none n _ (λ i li. sum_ℚ_none n _ (λ j lj. ap (λ (y : ℤ). whole y *ℚ x i j) (h i j li lj) ∙ zero_mul_ℚ (x i j)))
+
+-- at entries that are whole
+pub pairing_whole : (n : ℕ) (w s : Matrix) (x : ℕ → ℕ → Rational) → ((i j : ℕ) → i < n → j < n → x i j ≡ whole (s i j)) → pairing n w x ≡ whole (inner n w s)
+pairing_whole n w s x h = pairing_same n w w x (λ i j. whole (s i j)) (λ i j li lj. refl) h ∙ pairing-whole n w s
 
 -- p/d is 1/d times p
 ratio_as_product : (p : ℤ) (d : ℕ) → 0 < d → ratio p d ≡ ratio (pos 1) d *ℚ whole p
