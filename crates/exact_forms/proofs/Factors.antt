@@ -1,5 +1,5 @@
 -- Laws of factorizations, and that no factorization stands beside a separation.
-use Rattle.std.specs.Prelude.{◌≡◌, ℕ, suc, ◌*◌, ◌<◌, ℤ, pos, ◌*ℤ◌, List, [], ◌∷◌, ◌++◌, length, slice_index_or}
+use Rattle.std.specs.Prelude.{◌≡◌, ◌↔◌, ℕ, suc, ◌*◌, ◌<◌, ℤ, pos, ◌*ℤ◌, ◌<ℤ◌, List, [], ◌∷◌, ◌++◌, length, slice_index_or}
 use Rattle.commutative_ring.proofs.Expand.{expand}
 use Rattle.std.proofs.Common.{arith, sym, ◌∙◌, ap, ap₂, refl, subst}
 use Rattle.std.proofs.lemmas.Int.{ints}
@@ -16,7 +16,7 @@ use Rattle.exact_forms.proofs.Rational.{ring_ℚ, zero_mul_ℚ, whole-mul, mul-r
 use Rattle.exact_forms.proofs.RationalSums.{sum_ℚ_same, sum_ℚ_swap, mul-sum_ℚ, sum_ℚ-zero, sum_ℚ_head, sums_ℚ_same, sums_ℚ-add, mul-sums_ℚ, sum_ℚ_none, whole-sums}
 use Rattle.exact_forms.proofs.Forms.{form_is_inner}
 use Rattle.exact_forms.proofs.Order.{one_le_square}
-use Rattle.exact_forms.proofs.Signs.{positive_nonneg, nonneg_add, nonneg_product, positive_add, positive_product, whole_nonneg, whole_positive, nonneg_zero, zero_nonneg, negative_not_nonneg, positive_not_zero}
+use Rattle.exact_forms.proofs.Signs.{negative-ratio, positive_nonneg, nonneg_add, nonneg_product, positive_add, positive_product, whole_nonneg, whole_positive, nonneg_zero, zero_nonneg, negative_not_nonneg, positive_not_zero}
 
 -- ---- the weighted sum
 pub weighted_sum-nil : (i j : ℕ) → weighted_sum [] i j ≡ whole (pos 0)
@@ -171,6 +171,13 @@ factorization_nonneg n w a terms h factors =
 -- where W separates A there is no factorization
 pub separated_not_factored : (n : ℕ) (w : Matrix) (a : ℕ → ℕ → Rational) (terms : List WeightedVector) → Separates n w a → IsFactorization n a terms → ⊥
 separated_not_factored n w a terms h factors = negative_not_nonneg (pairing n w a) h.negative (factorization_nonneg n w a terms h.copositive factors)
+
+-- A over one denominator: W separates it exactly where ⟨W,S⟩ is below 0, for A = S/d
+pub separates_over : (n : ℕ) (w s : Matrix) (d : ℕ) → 0 < d → Separates n w (λ i j. ratio (s i j) d) ↔ (IsCopositive n w × (inner n w s <ℤ pos 0))
+separates_over n w s d hd = (
+  λ h. (h.copositive, (negative-ratio (inner n w s) d hd).0 (subst IsNegative (pairing-ratio n w s d hd) h.negative)),
+  λ h. record { copositive = h.0; negative = subst IsNegative (sym (pairing-ratio n w s d hd)) ((negative-ratio (inner n w s) d hd).1 h.1) },
+)
 
 -- ---- the entries below n decide
 pub factorization_same : (n : ℕ) (a b : ℕ → ℕ → Rational) (terms : List WeightedVector) → ((i j : ℕ) → i < n → j < n → a i j ≡ b i j) → IsFactorization n a terms → IsFactorization n b terms

@@ -1,5 +1,5 @@
 -- The neighbour of a perfect matrix along an extreme ray.
-use Rattle.std.specs.Prelude.{◌≡◌, ◌≢◌, ℕ, zero, suc, ◌<◌, ℤ, pos, negsuc, ◌+ℤ◌, ◌*ℤ◌, ◌-ℤ◌, ◌≤ℤ◌, ◌<ℤ◌, neg_ℤ, ◌⊎◌, List, length, slice_index_or}
+use Rattle.std.specs.Prelude.{◌≡◌, ℕ, zero, suc, ◌<◌, ℤ, pos, negsuc, ◌+ℤ◌, ◌*ℤ◌, ◌-ℤ◌, ◌≤ℤ◌, ◌<ℤ◌, neg_ℤ, ◌⊎◌, List, length, slice_index_or}
 use Rattle.std.proofs.Common.{arith, sym, ◌∙◌, ap, ap₂, refl, subst, inl, inr}
 use Rattle.std.proofs.lemmas.Int.{ints}
 use Rattle.std.specs.List.{All, Contains}
@@ -13,7 +13,7 @@ use Rattle.exact_forms.specs.Copositive.{Matrix, Attains, IsMinimum, IsPerfect, 
 use Rattle.exact_forms.specs.Neighbours.{IsCombined, IsTightening, IsCandidate}
 use Rattle.exact_forms.proofs.Sums.{sums_same, sums-add, mul-sums}
 use Rattle.exact_forms.proofs.Forms.{form_is_inner, form_same, form-mul}
-use Rattle.exact_forms.proofs.Order.{positive_mul, nonneg_mul}
+use Rattle.exact_forms.proofs.Order.{positive_mul, nonneg_mul, no_zero_divisor, positive_factor, cancel_positive}
 
 pub inner_combined : (n : ℕ) (g q p : ℤ) (P R C S : Matrix) → IsCombined n g q p P R C → g *ℤ inner n C S ≡ q *ℤ inner n P S +ℤ p *ℤ inner n R S
 unfolding inner
@@ -31,31 +31,6 @@ form_combined n g q p P R C x h =
     ap (λ (z : ℤ). g *ℤ z) (form_is_inner n C x)
     ∙ inner_combined n g q p P R C (λ i j. x i *ℤ x j) h
     ∙ sym (ap₂ (λ (a : ℤ) (b : ℤ). q *ℤ a +ℤ p *ℤ b) (form_is_inner n P x) (form_is_inner n R x))
-
--- ---- whole numbers
-pub no_zero_divisor : (x y : ℤ) → x ≢ pos 0 → x *ℤ y ≡ pos 0 → y ≡ pos 0
-no_zero_divisor (pos zero) y ne e = absurd (ne refl)
-no_zero_divisor (pos (suc a)) (pos zero) ne e = refl
-no_zero_divisor (pos (suc a)) (pos (suc b)) ne e = absurd (omega (arith, ints))
-no_zero_divisor (pos (suc a)) (negsuc b) ne e = absurd (omega (arith, ints))
-no_zero_divisor (negsuc a) (pos zero) ne e = refl
-no_zero_divisor (negsuc a) (pos (suc b)) ne e = absurd (omega (arith, ints))
-no_zero_divisor (negsuc a) (negsuc b) ne e = absurd (omega (arith, ints))
-
-pub positive_factor : (g x : ℤ) → pos 1 ≤ℤ g → pos 1 ≤ℤ (g *ℤ x) → pos 1 ≤ℤ x
-positive_factor (pos g) (pos zero) h k = absurd (omega (arith, ints))
-positive_factor (pos g) (pos (suc x)) h k = omega (arith, ints)
-positive_factor (pos g) (negsuc x) h k = absurd (omega (arith, ints))
-positive_factor (negsuc g) x h k = absurd (omega (arith, ints))
-
-cancel : (g x y : ℤ) → pos 1 ≤ℤ g → g *ℤ x ≡ g *ℤ y → x ≡ y
-cancel g x y h e =
-    let d : g *ℤ (x -ℤ y) ≡ pos 0 = apart g x y e in
-    let z : x -ℤ y ≡ pos 0 = no_zero_divisor g (x -ℤ y) (λ (s : g ≡ pos 0). absurd (omega (arith, ints))) d in
-    omega (arith, linear)
-  where
-    apart : (g x y : ℤ) → g *ℤ x ≡ g *ℤ y → g *ℤ (x -ℤ y) ≡ pos 0
-    apart g x y e = simp expand (omega (arith, linear, *ℤ_comm g x, *ℤ_comm g y))
 
 module _ (n : ℕ) (P R : Matrix) (mu : ℤ) (vectors : List (List ℕ)) (M : IsMinimum n P mu vectors) (E : IsExtremeRay n R vectors) where
   -- a vector at which the ray is negative has more than the minimum
@@ -89,7 +64,7 @@ module _ (n : ℕ) (P R : Matrix) (mu : ℤ) (vectors : List (List ℕ)) (M : Is
   module _ (w : List ℕ) (p q g level : ℤ) (C : Matrix) (T : IsTightening n P R mu w p q) (K : IsCandidate n P R mu p q g level C) where
     -- the vector has the level
     pub at_level : form n C (coordinate w) ≡ level
-    at_level = cancel g (form n C (coordinate w)) level K.divisor (form_combined n g q p P R C (coordinate w) K.combined ∙ turn (form n P (coordinate w)) (form n R (coordinate w)) T.ratio ∙ sym K.level_is)
+    at_level = cancel_positive g (form n C (coordinate w)) level K.divisor (form_combined n g q p P R C (coordinate w) K.combined ∙ turn (form n P (coordinate w)) (form n R (coordinate w)) T.ratio ∙ sym K.level_is)
       where
         turn : (a b : ℤ) → p *ℤ neg_ℤ b ≡ q *ℤ (a -ℤ mu) → q *ℤ a +ℤ p *ℤ b ≡ q *ℤ mu
         turn a b e = let e' = simp expand at e in simp expand (omega (arith, linear))
@@ -97,7 +72,7 @@ module _ (n : ℕ) (P R : Matrix) (mu : ℤ) (vectors : List (List ℕ)) (M : Is
     -- and so has a vector of P at which the ray is zero
     pub kept_level : (v : List ℕ) → Contains vectors v → form n R (coordinate v) ≡ pos 0 → form n C (coordinate v) ≡ level
     kept_level v l z =
-        cancel g (form n C (coordinate v)) level K.divisor
+        cancel_positive g (form n C (coordinate v)) level K.divisor
         (form_combined n g q p P R C (coordinate v) K.combined
         ∙ ap₂ (λ (x : ℤ) (y : ℤ). q *ℤ x +ℤ p *ℤ y) (M.lists.each v l).value z
         ∙ tidy
