@@ -2,5 +2,13 @@ pub mod Sums
 pub mod Forms
 pub mod Slacks
 pub mod Rational
-pub mod Tableau
+pub mod Signs
+pub mod Lexicographic
+pub mod Coordinates
+pub mod Triangles
+pub mod Vectors
+pub mod Copositive
+pub mod Factors
+pub mod RankOne
+pub mod Neighbours
 pub mod Lowest
