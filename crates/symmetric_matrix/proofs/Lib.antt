@@ -1,2 +1,4 @@
 pub mod Owed
 pub mod Places
+pub mod Lists
+pub mod Runs
