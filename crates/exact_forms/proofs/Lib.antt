@@ -4,6 +4,15 @@ pub mod Forms
 pub mod Order
 pub mod Slacks
 pub mod Rational
-pub mod Tableau
 pub mod RationalOrder
 pub mod Perfect
+pub mod Signs
+pub mod Triangles
+pub mod Vectors
+pub mod Copositive
+pub mod Factors
+pub mod Lexicographic
+pub mod Coordinates
+pub mod Denominators
+pub mod Shown
+pub mod RankOne

@@ -1,13 +1,13 @@
 -- Perfect lists of vectors, by coordinates.
-use Rattle.std.specs.Prelude.{◌≡◌, ℕ, zero, suc, ◌<◌, ℤ, pos, ◌+ℤ◌, ◌*ℤ◌, [], ◌∷◌}
+use Rattle.std.specs.Prelude.{◌≡◌, ℕ, ◌<◌, ℤ, pos, ◌+ℤ◌, ◌*ℤ◌, [], ◌∷◌}
 use Rattle.std.proofs.Common.{arith, sym, ◌∙◌, ap, ap₂, refl}
 use Rattle.commutative_ring.proofs.Ring.{ring_in, num, ◌⊗◌, v0, v1, v2}
-use Rattle.exact_forms.proofs.RationalSums.{sum_ℚ_same, sum_ℚ_none, mul-sum_ℚ, sum_ℚ_swap, whole-sum, whole-sums}
+use Rattle.exact_forms.proofs.RationalSums.{sum_ℚ_same, sum_ℚ_none, mul-sum_ℚ, sum_ℚ_swap, whole-sums}
 use Rattle.exact_forms.specs.Sums.{sum_to, sum_ℚ}
 use Rattle.exact_forms.specs.Forms.{bilinear, form, IsSymmetric}
 use Rattle.exact_forms.proofs.Sums.{sum_to_one, sum_to_none, sums_same, sums-add}
-use Rattle.exact_forms.specs.Rational.{Rational, ratio, whole, ◌+ℚ◌, ◌*ℚ◌}
-use Rattle.exact_forms.proofs.Rational.{rational_ring, whole-add, whole-mul, cancel_pos, den_positive, ratio_value}
+use Rattle.exact_forms.specs.Rational.{Rational, whole, ◌*ℚ◌}
+use Rattle.exact_forms.proofs.Rational.{rational_ring, whole-mul, whole_same}
 use Rattle.exact_forms.specs.Slacks.{replaced}
 use Rattle.exact_forms.proofs.Slacks.{replaced_here, replaced_other}
 use Rattle.commutative_ring.proofs.Laws.{mul_add_ℤ}
@@ -43,14 +43,6 @@ paired n m v c u z w =
   where
     turn : (x y z : Rational) → x *ℚ (y *ℚ z) ≡ y *ℚ (x *ℚ z)
     turn x y z = ring_in rational_ring (x ∷ y ∷ z ∷ []) (v0 ⊗ (v1 ⊗ v2)) (v1 ⊗ (v0 ⊗ v2)) refl
-
--- whole numbers differ as rational numbers
-pub whole_same : (a b : ℤ) → whole a ≡ whole b → a ≡ b
-unfolding whole
-whole_same a b e =
-    let one : 0 < 1 = omega arith in
-    cancel_pos (ratio a 1).den a b (den_positive (ratio a 1))
-    (sym (ratio_value a 1 one) ∙ ap (λ (x : Rational). x.num *ℤ pos 1) e ∙ ratio_value b 1 one ∙ ap (λ (x : Rational). b *ℤ pos x.den) (sym e))
 
 -- 1 at a, else 0
 abbrev pub mark : ℕ → ℕ → ℤ
