@@ -35,4 +35,4 @@ list_push xs x list follows = record {
     before z (k, l, e) (inl more) =
         subst (λ (w : List ℕ). ComesBefore w x) (get_or_default xs k [] z l ∙ e)
         (before_transitive (slice_index_or xs k []) (slice_index_or xs (length xs - 1) []) x
-          (increasing_places xs [] list.increasing k (length xs - 1) (omega arith) (omega arith)) (follows.greater (length xs - 1) (omega arith)))
+        (increasing_places xs [] list.increasing k (length xs - 1) (omega arith) (omega arith)) (follows.greater (length xs - 1) (omega arith)))

@@ -1,8 +1,8 @@
 -- Runs of ones, their vectors, and the order in which they are listed.
-use Rattle.std.specs.Prelude.{◌≡◌, ℕ, zero, suc, ◌+◌, ◌-◌, ◌<◌, ◌≤◌, ◌⊎◌, ◌&&◌, nat_le, if◌then◌else◌, List, [], ◌∷◌, ◌++◌, length, map, take, slice_index, slice_index_or}
+use Rattle.std.specs.Prelude.{◌≡◌, ℕ, zero, suc, ◌+◌, ◌-◌, ◌<◌, ◌≤◌, ◌⊎◌, ◌&&◌, nat_le, if◌then◌else◌, List, [], ◌∷◌, ◌++◌, length, map, take, ◌≢◌, slice_index, slice_index_or}
 use Rattle.std.specs.List.{All, Contains, range_with_len, flat_map}
-use Rattle.std.proofs.Common.{arith, sym, ◌∙◌, ap, ap₂, refl, subst, inl, inr}
-use Rattle.std.proofs.lemmas.List.{append-nil, append_assoc, map-append, length-map, get_or-map, length-take-le, get_or-take, map-id}
+use Rattle.std.proofs.Common.{set, arith, sym, ◌∙◌, ap, ap₂, refl, subst, inl, inr}
+use Rattle.std.proofs.lemmas.List.{append-nil, append_assoc, map-append, length-map, get_or-map, length-take-le, get_or-take, get_or-set_same, get_or-set_other, map-id}
 use Rattle.std.proofs.lemmas.List.FromFn.{length-map-range_with_len, get_or-map-range_with_len, map-range_with_len_more, fill_by_all}
 use Rattle.std.proofs.lemmas.List.Elements.{All-append, All-push, All-map, All-weaker, All-contains, Contains-append_left, Contains-append_right, Contains-get_or}
 use Rattle.std.proofs.lemmas.List.Concat.{flat_map-append}
@@ -45,8 +45,8 @@ before_earlier n r s hr hs h =
     comes_before_at (run_vector n r) (run_vector n s) s.first (rw length-run_vector inside) (rw length-run_vector inside)
     (λ k l. run_vector_at n r k (omega arith) ∙ run_digit_before r k (omega arith) ∙ sym (run_vector_at n s k (omega arith) ∙ run_digit_before s k l))
     (let a : slice_index_or (run_vector n r) s.first 0 ≡ 0 = run_vector_at n r s.first inside ∙ run_digit_before r s.first h in
-      let b : slice_index_or (run_vector n s) s.first 0 ≡ 1 = run_vector_at n s s.first inside ∙ run_digit_inside s s.first (omega arith) hs.ordered in
-      omega arith)
+    let b : slice_index_or (run_vector n s) s.first 0 ≡ 1 = run_vector_at n s s.first inside ∙ run_digit_inside s s.first (omega arith) hs.ordered in
+    omega arith)
 
 -- of two that begin together, the longer
 pub before_longer : (n : ℕ) (r s : Run) → IsRunWithin n r → IsRunWithin n s → s.first ≡ r.first → r.last < s.last → ComesBefore (run_vector n r) (run_vector n s)
@@ -55,8 +55,8 @@ before_longer n r s hr hs e h =
     comes_before_at (run_vector n r) (run_vector n s) (r.last + 1) (rw length-run_vector inside) (rw length-run_vector inside)
     (λ k l. run_vector_at n r k (omega arith) ∙ run_digit_same r s k e (omega arith) (omega arith) ∙ sym (run_vector_at n s k (omega arith)))
     (let a : slice_index_or (run_vector n r) (r.last + 1) 0 ≡ 0 = run_vector_at n r (r.last + 1) inside ∙ run_digit_after r (r.last + 1) (omega arith) in
-      let b : slice_index_or (run_vector n s) (r.last + 1) 0 ≡ 1 = run_vector_at n s (r.last + 1) inside ∙ run_digit_inside s (r.last + 1) (omega (arith, hr.ordered)) (omega arith) in
-      omega arith)
+    let b : slice_index_or (run_vector n s) (r.last + 1) 0 ≡ 1 = run_vector_at n s (r.last + 1) inside ∙ run_digit_inside s (r.last + 1) (omega (arith, hr.ordered)) (omega arith) in
+    omega arith)
 
 -- ---- lists of runs
 pub runs_from_none : (j : ℕ) → runs_from j 0 ≡ []
@@ -97,8 +97,8 @@ runs_from_all j (suc m) =
     let e : m + 1 ≡ suc m = omega arith in
     subst (λ (k : ℕ). All (BeginsAt j (suc m)) (runs_from j k)) e
     (rw runs_from_more (All-push (BeginsAt j (suc m)) (runs_from j m) (record { first = j; last = j + m })
-      (All-weaker (BeginsAt j m) (BeginsAt j (suc m)) (λ r b. record { first = b.first; ordered = b.ordered; short = omega (arith, b.short) }) (runs_from j m) (runs_from_all j m))
-      (record { first = refl; ordered = omega arith; short = omega arith })))
+    (All-weaker (BeginsAt j m) (BeginsAt j (suc m)) (λ r b. record { first = b.first; ordered = b.ordered; short = omega (arith, b.short) }) (runs_from j m) (runs_from_all j m))
+    (record { first = refl; ordered = omega arith; short = omega arith })))
 
 pub late_runs_all : (n m : ℕ) → m ≤ n → All (IsLate n m) (late_runs n m)
 late_runs_all n zero h = rw late_runs_none (λ k d l. absurd (omega arith))
@@ -106,8 +106,8 @@ late_runs_all n (suc m) h =
     let e : m + 1 ≡ suc m = omega arith in
     subst (λ (k : ℕ). All (IsLate n (suc m)) (late_runs n k)) e
     (rw late_runs_more (All-append (IsLate n (suc m)) (late_runs n m) (runs_from (n - (m + 1)) (m + 1))
-      (All-weaker (IsLate n m) (IsLate n (suc m)) (λ r b. record { late = omega (arith, b.late); within = b.within }) (late_runs n m) (late_runs_all n m (omega arith)))
-      (All-weaker (BeginsAt (n - (m + 1)) (m + 1)) (IsLate n (suc m)) begins (runs_from (n - (m + 1)) (m + 1)) (runs_from_all (n - (m + 1)) (m + 1)))))
+    (All-weaker (IsLate n m) (IsLate n (suc m)) (λ r b. record { late = omega (arith, b.late); within = b.within }) (late_runs n m) (late_runs_all n m (omega arith)))
+    (All-weaker (BeginsAt (n - (m + 1)) (m + 1)) (IsLate n (suc m)) begins (runs_from (n - (m + 1)) (m + 1)) (runs_from_all (n - (m + 1)) (m + 1)))))
   where
     begins : (r : Run) → BeginsAt (n - (m + 1)) (m + 1) r → IsLate n (suc m) r
     begins r b = record { late = omega (arith, b.first); within = record { ordered = omega (arith, b.first, b.ordered); inside = omega (arith, b.short) } }
@@ -152,8 +152,8 @@ all_before n m d hm hd =
     All-append (λ s. ComesBefore (run_vector n s) (run_vector n r)) (late_runs n m) (runs_from (n - (m + 1)) d)
     (All-weaker (IsLate n m) (λ s. ComesBefore (run_vector n s) (run_vector n r)) (λ s l. before_earlier n s r l.within within (omega (arith, l.late))) (late_runs n m) (late_runs_all n m (omega arith)))
     (All-weaker (BeginsAt (n - (m + 1)) d) (λ s. ComesBefore (run_vector n s) (run_vector n r))
-      (λ s b. before_longer n s r (record { ordered = omega (arith, b.first, b.ordered); inside = omega (arith, b.short) }) within (sym b.first) b.short)
-      (runs_from (n - (m + 1)) d) (runs_from_all (n - (m + 1)) d))
+    (λ s b. before_longer n s r (record { ordered = omega (arith, b.first, b.ordered); inside = omega (arith, b.short) }) within (sym b.first) b.short)
+    (runs_from (n - (m + 1)) d) (runs_from_all (n - (m + 1)) d))
 
 -- one run more
 pub vectors_more : (n m d : ℕ) → map (run_vector n) (late_runs n m ++ runs_from (n - (m + 1)) (d + 1))
@@ -165,7 +165,7 @@ increasing_more : (n m d : ℕ) → m < n → d ≤ m
 increasing_more n m d hm hd h =
     let r : Run = record { first = n - (m + 1); last = n - (m + 1) + d } in
     rw vectors_more (increasing_push (map (run_vector n) (late_runs n m ++ runs_from (n - (m + 1)) d)) (run_vector n r) h
-      (before_all n r (late_runs n m ++ runs_from (n - (m + 1)) d) (all_before n m d hm hd)))
+    (before_all n r (late_runs n m ++ runs_from (n - (m + 1)) d) (all_before n m d hm hd)))
 
 pub can_follow_runs : (n m d : ℕ) → m < n → d ≤ m
     → CanFollow (map (run_vector n) (late_runs n m ++ runs_from (n - (m + 1)) d)) (run_vector n (record { first = n - (m + 1); last = n - (m + 1) + d }))
@@ -235,3 +235,39 @@ pub run_vector_is_vector : (n : ℕ) (r : Run) → 1 ≤ n → n ≤ 8 → IsVec
 run_vector_is_vector n r one eight =
     let long = length-run_vector n r in
     record { nonempty = omega arith; short = omega arith; small = λ p l. rw (run_vector_at n r p (omega arith)) (omega (arith, run_digit_small r p)) }
+
+-- the steps of the filling
+pub ones_more : (xs : List ℕ) (first i : ℕ) → i < length xs → ((k : ℕ) → first ≤ k → k < i → slice_index_or xs k 0 ≡ 1)
+    → (k : ℕ) → first ≤ k → k < i + 1 → slice_index_or (set xs i 1) k 0 ≡ 1
+ones_more xs first i l h k a b = by (here_or_before k i b)
+  where
+    here_or_before : (k i : ℕ) → k < i + 1 → (k ≡ i) ⊎ (k < i)
+    here_or_before k i b = grind arith
+
+    by : ((k ≡ i) ⊎ (k < i)) → slice_index_or (set xs i 1) k 0 ≡ 1
+    by (inl e) = rw e (get_or-set_same xs i 1 0 l)
+    by (inr m) = get_or-set_other xs i k 1 0 (omega arith) ∙ h k a m
+
+pub zero_stays : (xs : List ℕ) (i k : ℕ) → k ≢ i → slice_index_or xs k 0 ≡ 0 → slice_index_or (set xs i 1) k 0 ≡ 0
+zero_stays xs i k ne h = get_or-set_other xs i k 1 0 ne ∙ h
+
+-- the step of a loop over the runs that begin at one place
+next_run : (n m first last : ℕ) → m < n → first ≡ n - 1 - m → first ≤ last
+    → run_vector n (record { first = n - (m + 1); last = n - (m + 1) + (last - first) }) ≡ run_vector n (record { first = first; last = last })
+next_run n m first last hm e a =
+    let f : n - (m + 1) ≡ first = omega arith in
+    let l : n - (m + 1) + (last - first) ≡ last = omega arith in
+    ap₂ (λ (j : ℕ) (k : ℕ). run_vector n (record { first = j; last = k })) f l
+
+pub can_follow_next : (n m first last : ℕ) (list : List (List ℕ)) (x : List ℕ) → m < n → first ≡ n - 1 - m → first ≤ last → last < n
+    → list ≡ map (run_vector n) (late_runs n m ++ runs_from (n - (m + 1)) (last - first)) → x ≡ run_vector n (record { first = first; last = last }) → CanFollow list x
+can_follow_next n m first last list x hm e a b is_list is_x =
+    rw (is_list, is_x, ← next_run n m first last hm e a) (can_follow_runs n m (last - first) hm (omega arith))
+
+pub next_appended : (n m first last : ℕ) (list new : List (List ℕ)) (x : List ℕ) → m < n → first ≡ n - 1 - m → first ≤ last
+    → list ≡ map (run_vector n) (late_runs n m ++ runs_from (n - (m + 1)) (last - first)) → x ≡ run_vector n (record { first = first; last = last }) → new ≡ list ++ x ∷ []
+    → new ≡ map (run_vector n) (late_runs n m ++ runs_from (n - (m + 1)) (last + 1 - first))
+next_appended n m first last list new x hm e a is_list is_x is_new =
+    let more : last - first + 1 ≡ last + 1 - first = omega arith in
+    is_new ∙ ap₂ (λ (xs : List (List ℕ)) (x : List ℕ). xs ++ x ∷ []) is_list (is_x ∙ sym (next_run n m first last hm e a))
+    ∙ sym (vectors_more n m (last - first)) ∙ ap (λ (d : ℕ). map (run_vector n) (late_runs n m ++ runs_from (n - (m + 1)) d)) more
