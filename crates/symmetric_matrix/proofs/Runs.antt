@@ -2,10 +2,12 @@
 use Rattle.std.specs.Prelude.{◌≡◌, ℕ, zero, suc, ◌+◌, ◌-◌, ◌<◌, ◌≤◌, ◌⊎◌, ◌&&◌, nat_le, if◌then◌else◌, List, [], ◌∷◌, ◌++◌, length, map, take, ◌≢◌, slice_index, slice_index_or}
 use Rattle.std.specs.List.{All, Contains, range_with_len, flat_map}
 use Rattle.std.proofs.Common.{set, arith, sym, ◌∙◌, ap, ap₂, refl, subst, inl, inr}
-use Rattle.std.proofs.lemmas.List.{append-nil, append_assoc, map-append, length-map, get_or-map, length-take-le, get_or-take, get_or-set_same, get_or-set_other, map-id}
+use Rattle.std.proofs.lemmas.List.{length-append, append-nil, append_assoc, map-append, length-map, get_or-map, length-take-le, get_or-take, get_or-set_same, get_or-set_other, map-id}
 use Rattle.std.proofs.lemmas.List.FromFn.{length-map-range_with_len, get_or-map-range_with_len, map-range_with_len_more, fill_by_all}
 use Rattle.std.proofs.lemmas.List.Elements.{All-append, All-push, All-map, All-weaker, All-contains, Contains-append_left, Contains-append_right, Contains-get_or}
 use Rattle.std.proofs.lemmas.List.Concat.{flat_map-append}
+use Rattle.exact_forms.specs.Triangles.{triangle}
+use Rattle.exact_forms.proofs.Triangles.{triangle-zero, triangle-suc}
 use Rattle.exact_forms.specs.Vectors.{ComesBefore, IsIncreasing}
 use Rattle.exact_forms.proofs.Vectors.{increasing_push}
 use Rattle.symmetric_matrix.specs.Lists.{IsVector, CanFollow}
@@ -80,6 +82,17 @@ late_runs_more n m =
     let block : ℕ → List Run = λ (k : ℕ). runs_from (n - (k + 1)) (k + 1) in
     ap (flat_map block) (range_more m) ∙ flat_map-append block (range_with_len 0 m) (m ∷ [])
     ∙ ap (λ (rs : List Run). flat_map block (range_with_len 0 m) ++ rs) (append-nil (block m))
+
+length-runs_from : (j m : ℕ) → length (runs_from j m) ≡ m
+unfolding runs_from
+length-runs_from j m = let run : ℕ → Run = λ (k : ℕ). record { first = j; last = k } in length-map-range_with_len run j m
+
+pub length-late_runs : (n m : ℕ) → length (late_runs n m) ≡ triangle m
+length-late_runs n zero = ap length (late_runs_none n) ∙ sym triangle-zero
+length-late_runs n (suc m) =
+    let e : m + 1 ≡ suc m = omega arith in
+    ap (λ (k : ℕ). length (late_runs n k)) (sym e) ∙ ap length (late_runs_more n m) ∙ length-append (late_runs n m) (runs_from (n - (m + 1)) (m + 1))
+    ∙ ap₂ (λ (a : ℕ) (b : ℕ). a + b) (length-late_runs n m) (length-runs_from (n - (m + 1)) (m + 1) ∙ e) ∙ sym (triangle-suc m)
 
 -- ---- what they list
 pub record BeginsAt (j m : ℕ) (r : Run) : Type 0 where
@@ -203,6 +216,9 @@ pub Contains-map_back : {X Y : Type 0} (f : X → Y) (xs : List X) (y : Y) → C
 Contains-map_back f [] y (k, l, e) = absurd (omega arith)
 Contains-map_back f (x ∷ xs) y (zero, l, e) = (x, (0, omega arith, refl), e)
 Contains-map_back f (x ∷ xs) y (suc k, l, e) = let c = Contains-map_back f xs y (k, omega arith, e) in (c.0, (suc c.1.0, (let h = c.1.1 in omega arith), c.1.2), c.2)
+
+pub length-start_list : (n : ℕ) → length (start_list n) ≡ triangle n
+length-start_list n = ap length (start_list_is n) ∙ length-map (late_runs n n) (run_vector n) ∙ length-late_runs n n
 
 pub lists_start_vectors : (n : ℕ) → ListsStartVectors n (start_list n)
 lists_start_vectors n = rw start_list_is record {

@@ -3,3 +3,4 @@ pub mod Operations
 pub mod Symmetric
 pub mod Lists
 pub mod StartVectors
+pub mod StartWeights

@@ -1,7 +1,9 @@
 //! The vectors that a search begins with.
 
-ghost use Rattle.std.specs.Prelude.{◌≡◌, ◌+◌, ◌-◌, ◌<◌, ◌≤◌, ◌++◌, map, IfOk, OnOk};
+ghost use Rattle.std.specs.Prelude.{◌≡◌, ◌+◌, ◌-◌, ◌<◌, ◌≤◌, ◌++◌, length, map, IfOk, OnOk};
+ghost use Rattle.exact_forms.specs.Triangles.{triangle};
 ghost use Rattle.symmetric_matrix.specs.StartVectors.{run_vector, runs_from, late_runs, start_list, ListsStartVectors};
+ghost use Rattle.symmetric_matrix.specs.StartWeights.{StartWeightsWrite, StartMatricesAreFree};
 
 use crate::{IntVector, VectorList};
 use std::alloc::{AllocError, Global};
@@ -13,6 +15,7 @@ pub fn start_vectors(alloc: Global, n: u8) -> Result<VectorList, AllocError>
     requires positive { 1 ≤ n }
     requires small { n ≤ 8 }
     ensures list { IfOk result (λ list. list ≡ start_list n) }
+    ensures count { IfOk result (λ list. length list ≡ triangle n) }
     ensures meaning { IfOk result (λ list. ListsStartVectors n list) }
 {
     let mut list = VectorList::new(alloc);
@@ -21,6 +24,12 @@ pub fn start_vectors(alloc: Global, n: u8) -> Result<VectorList, AllocError>
     }
     Ok(list)
 }
+
+/// A law, with nothing to compute: the weights of a symmetric matrix over the start vectors are its coordinates, and there are no others.
+pub fn start_weights_are_coordinates()
+    ensures write { StartWeightsWrite }
+    ensures free { StartMatricesAreFree }
+{}
 
 // Appends the vectors of the runs after whose beginning there are `later` places.
 fn push_runs(alloc: Global, n: u8, later: u8, list: &mut VectorList) -> Result<(), AllocError>

@@ -1,6 +1,6 @@
-use Rattle.std.proofs.Common.{◌≡◌, ◌∙◌, ap, sym, ℕ, arith, List, map, subst, refl}
+use Rattle.std.proofs.Common.{◌≡◌, length, ◌∙◌, ap, sym, ℕ, arith, List, map, subst, refl}
 use Rattle.symmetric_matrix.specs.StartVectors.{run_vector, late_runs, start_list, ListsStartVectors}
-use Rattle.symmetric_matrix.proofs.Runs.{late_runs_none, start_list_is, lists_start_vectors}
+use Rattle.symmetric_matrix.proofs.Runs.{late_runs_none, start_list_is, lists_start_vectors, length-start_list}
 use Rattle.symmetric_matrix.proofs.start.start_vectors.Goals as goal
 
 pub loop-later-init : goal.loop-later-init
@@ -13,3 +13,6 @@ returns-clause-list c =
 
 pub returns-clause-meaning : goal.returns-clause-meaning
 returns-clause-meaning c = subst (ListsStartVectors c.args.n) (sym (returns-clause-list c)) (lists_start_vectors c.args.n)
+
+pub returns-clause-count : goal.returns-clause-count
+returns-clause-count c = ap length (returns-clause-list c) ∙ length-start_list c.args.n
