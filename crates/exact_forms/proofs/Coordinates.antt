@@ -29,6 +29,10 @@ no_zero_product x y ne e =
     ∙ ap (λ w. w *ℚ inverse y.num y.den) e
     ∙ zero_mul_ℚ (inverse y.num y.den)
 
+pub true_or_false : (b : Bool) → (b ≡ true) ⊎ (b ≡ false)
+true_or_false true = inl refl
+true_or_false false = inr refl
+
 module _ (A : Columns) where
   -- c + s·d writes x + s·y
   pub coordinates_add : (B : ℕ → Bool) (c d : ℕ → Rational) (x y : ℕ → ℕ → Rational) (s : Rational) → IsCoordinates A B c x → IsCoordinates A B d y

@@ -3,12 +3,15 @@ use Rattle.std.specs.Prelude.{◌≡◌, ◌≢◌, ℕ, zero, suc, ◌<◌, ℤ
 use Rattle.std.proofs.Common.{arith, sym, ◌∙◌, ap, refl, inl, inr, subst}
 use Rattle.std.proofs.lemmas.Int.{ints}
 use Rattle.std.specs.List.{Contains}
+use Rattle.commutative_ring.proofs.Laws.{mul_zero_ℤ}
+use Rattle.commutative_ring.proofs.Expand.{expand}
 use Rattle.exact_forms.specs.Forms.{bilinear, form}
 use Rattle.exact_forms.specs.Vectors.{coordinate, IsNonzero}
 use Rattle.exact_forms.specs.Copositive.{Matrix, IsCopositive, IsStrictlyCopositive, Attains, ListsAttaining, IsMinimum}
 use Rattle.exact_forms.proofs.Sums.{sum_to_none}
+use Rattle.exact_forms.proofs.Forms.{form_same, form-mul}
+use Rattle.exact_forms.proofs.Order.{nonneg_mul, mul_le_left, le_of_mul_le_left, positive_mul, positive_factor, cancel_positive}
 use Rattle.exact_forms.proofs.Vectors.{increasing_unique, contains_here}
-use Rattle.commutative_ring.proofs.Expand.{expand}
 
 -- a list of all that attain a value is one list
 pub lists_unique : (n : ℕ) (q : Matrix) (m : ℤ) (xs ys : List (List ℕ)) → ListsAttaining n q m xs → ListsAttaining n q m ys → xs ≡ ys
@@ -39,7 +42,7 @@ pub minimum_strictly_copositive : (n : ℕ) (q : Matrix) (m : ℤ) (vectors : Li
 minimum_strictly_copositive n q m vectors h x size nonzero = let a = h.least x size nonzero in let b = h.positive in omega (arith, ints)
 
 -- some number is not 0, or each is
-nonzero_or_zero : (n : ℕ) (x : List ℕ) → IsNonzero n x ⊎ ((p : ℕ) → p < n → coordinate x p ≡ pos 0)
+pub nonzero_or_zero : (n : ℕ) (x : List ℕ) → IsNonzero n x ⊎ ((p : ℕ) → p < n → coordinate x p ≡ pos 0)
 nonzero_or_zero zero x = inr (λ p l. absurd (omega arith))
 nonzero_or_zero (suc n) x = by (zero_or_not (coordinate x n)) (nonzero_or_zero n x)
   where
@@ -72,3 +75,58 @@ strictly_copositive n q h x size = by (nonzero_or_zero n x)
     by : (IsNonzero n x ⊎ ((p : ℕ) → p < n → coordinate x p ≡ pos 0)) → pos 0 ≤ℤ form n q (coordinate x)
     by (inl nonzero) = let a = h x size nonzero in omega (arith, ints)
     by (inr zeros) = rw (form_at_zero n q (coordinate x) zeros) (omega (arith, ints))
+
+-- ---- the entries below n decide
+pub copositive_same : (n : ℕ) (q s : Matrix) → ((i j : ℕ) → i < n → j < n → q i j ≡ s i j) → IsCopositive n q → IsCopositive n s
+copositive_same n q s e h x size = subst (λ (z : ℤ). pos 0 ≤ℤ z) (form_same n q s (coordinate x) (coordinate x) e (λ i l. refl)) (h x size)
+
+attains_of : (n : ℕ) (q s : Matrix) (m k : ℤ) → ((x : ℕ → ℤ) → form n q x ≡ m → form n s x ≡ k) → (x : List ℕ) → Attains n q m x → Attains n s k x
+attains_of n q s m k e x h = record { size = h.size; nonzero = h.nonzero; value = e (coordinate x) h.value }
+
+-- a minimum, where the values go over into values in the same order
+minimum_of : (n : ℕ) (q s : Matrix) (m k : ℤ) (vectors : List (List ℕ)) → pos 1 ≤ℤ k
+    → ((x : ℕ → ℤ) → form n q x ≡ m → form n s x ≡ k) → ((x : ℕ → ℤ) → form n s x ≡ k → form n q x ≡ m) → ((x : ℕ → ℤ) → m ≤ℤ form n q x → k ≤ℤ form n s x)
+    → IsMinimum n q m vectors → IsMinimum n s k vectors
+minimum_of n q s m k vectors positive there back over h = record {
+  positive = positive;
+  least = λ x size nonzero. over (coordinate x) (h.least x size nonzero);
+  some = h.some;
+  lists = record {
+    each = λ x c. attains_of n q s m k there x (h.lists.each x c);
+    all = λ x a. h.lists.all x (attains_of n s q k m back x a);
+    increasing = h.lists.increasing;
+  };
+}
+
+pub minimum_same : (n : ℕ) (q s : Matrix) (m : ℤ) (vectors : List (List ℕ)) → ((i j : ℕ) → i < n → j < n → q i j ≡ s i j) → IsMinimum n q m vectors → IsMinimum n s m vectors
+minimum_same n q s m vectors e h =
+    minimum_of n q s m m vectors h.positive (λ x v. sym (same x) ∙ v) (λ x v. same x ∙ v) (λ x l. subst (λ (z : ℤ). m ≤ℤ z) (same x) l) h
+  where
+    same : (x : ℕ → ℤ) → form n q x ≡ form n s x
+    same x = form_same n q s x x e (λ i l. refl)
+
+-- ---- multiples
+pub copositive_times : (n : ℕ) (c : ℤ) (q : Matrix) → pos 0 ≤ℤ c → IsCopositive n q → IsCopositive n (λ i j. c *ℤ q i j)
+copositive_times n c q hc h x size = subst (λ (z : ℤ). pos 0 ≤ℤ z) (sym (form-mul n c q (coordinate x))) (nonneg_mul c (form n q (coordinate x)) hc (h x size))
+
+pub copositive_divided : (n : ℕ) (c : ℤ) (q : Matrix) → pos 1 ≤ℤ c → IsCopositive n (λ i j. c *ℤ q i j) → IsCopositive n q
+copositive_divided n c q hc h x size =
+    le_of_mul_le_left c (pos 0) (form n q (coordinate x)) hc
+    (subst (λ (z : ℤ). z ≤ℤ (c *ℤ form n q (coordinate x))) (sym (mul_zero_ℤ c)) (subst (λ (z : ℤ). pos 0 ≤ℤ z) (form-mul n c q (coordinate x)) (h x size)))
+
+-- c times the matrix has c times the minimum, at the same vectors
+pub minimum_times : (n : ℕ) (c : ℤ) (q : Matrix) (m : ℤ) (vectors : List (List ℕ)) → pos 1 ≤ℤ c → IsMinimum n q m vectors → IsMinimum n (λ i j. c *ℤ q i j) (c *ℤ m) vectors
+minimum_times n c q m vectors hc h =
+    minimum_of n q (λ i j. c *ℤ q i j) m (c *ℤ m) vectors (positive_mul c m hc h.positive)
+    (λ x v. form-mul n c q x ∙ ap (λ (z : ℤ). c *ℤ z) v)
+    (λ x v. cancel_positive c (form n q x) m hc (sym (form-mul n c q x) ∙ v))
+    (λ x l. subst (λ (z : ℤ). (c *ℤ m) ≤ℤ z) (sym (form-mul n c q x)) (mul_le_left c m (form n q x) (omega (arith, ints)) l))
+    h
+
+pub minimum_divided : (n : ℕ) (c : ℤ) (q : Matrix) (m : ℤ) (vectors : List (List ℕ)) → pos 1 ≤ℤ c → IsMinimum n (λ i j. c *ℤ q i j) (c *ℤ m) vectors → IsMinimum n q m vectors
+minimum_divided n c q m vectors hc h =
+    minimum_of n (λ i j. c *ℤ q i j) q (c *ℤ m) m vectors (positive_factor c m hc h.positive)
+    (λ x v. cancel_positive c (form n q x) m hc (sym (form-mul n c q x) ∙ v))
+    (λ x v. form-mul n c q x ∙ ap (λ (z : ℤ). c *ℤ z) v)
+    (λ x l. le_of_mul_le_left c m (form n q x) hc (subst (λ (z : ℤ). (c *ℤ m) ≤ℤ z) (form-mul n c q x) l))
+    h

@@ -1,5 +1,5 @@
 -- Laws of factorizations, and that no factorization stands beside a separation.
-use Rattle.std.specs.Prelude.{◌≡◌, ℕ, suc, ◌*◌, ◌<◌, ℤ, pos, ◌*ℤ◌, List, [], ◌∷◌, ◌++◌, length, slice_index_or}
+use Rattle.std.specs.Prelude.{◌≡◌, ◌↔◌, ℕ, suc, ◌*◌, ◌<◌, ℤ, pos, ◌*ℤ◌, ◌<ℤ◌, List, [], ◌∷◌, ◌++◌, length, slice_index_or}
 use Rattle.commutative_ring.proofs.Expand.{expand}
 use Rattle.std.proofs.Common.{arith, sym, ◌∙◌, ap, ap₂, refl, subst}
 use Rattle.std.proofs.lemmas.Int.{ints}
@@ -12,11 +12,11 @@ use Rattle.exact_forms.specs.Signs.{IsPositive, IsNegative, IsNonnegative}
 use Rattle.exact_forms.specs.Vectors.{coordinate, IsNonzero}
 use Rattle.exact_forms.specs.Copositive.{Matrix, IsCopositive}
 use Rattle.exact_forms.specs.Factors.{WeightedVector, weighted_sum, pairing, IsFactorization, Separates}
-use Rattle.exact_forms.proofs.Rational.{ring_ℚ, whole-mul, mul-ratio, ratio_same}
-use Rattle.exact_forms.proofs.RationalSums.{sum_ℚ-zero, sum_ℚ_head, sums_ℚ_same, sums_ℚ-add, mul-sums_ℚ, sum_ℚ_none, whole-sums}
+use Rattle.exact_forms.proofs.Rational.{ring_ℚ, zero_mul_ℚ, whole-mul, mul-ratio, ratio_same}
+use Rattle.exact_forms.proofs.RationalSums.{sum_ℚ_same, sum_ℚ_swap, mul-sum_ℚ, sum_ℚ-zero, sum_ℚ_head, sums_ℚ_same, sums_ℚ-add, mul-sums_ℚ, sum_ℚ_none, whole-sums}
 use Rattle.exact_forms.proofs.Forms.{form_is_inner}
 use Rattle.exact_forms.proofs.Order.{one_le_square}
-use Rattle.exact_forms.proofs.Signs.{positive_nonneg, nonneg_add, nonneg_product, positive_add, positive_product, whole_nonneg, whole_positive, nonneg_zero, zero_nonneg, negative_not_nonneg, positive_not_zero}
+use Rattle.exact_forms.proofs.Signs.{negative-ratio, positive_nonneg, nonneg_add, nonneg_product, positive_add, positive_product, whole_nonneg, whole_positive, nonneg_zero, zero_nonneg, negative_not_nonneg, positive_not_zero}
 
 -- ---- the weighted sum
 pub weighted_sum-nil : (i j : ℕ) → weighted_sum [] i j ≡ whole (pos 0)
@@ -84,6 +84,35 @@ pairing-whole n w s = sums_ℚ_same n n _ _ (λ i j li lj. sym (whole-mul (w i j
 pub pairing_of_square : (n : ℕ) (w : Matrix) (x : ℕ → ℤ) → pairing n w (λ i j. whole (x i *ℤ x j)) ≡ whole (form n w x)
 pairing_of_square n w x = pairing-whole n w (λ i j. x i *ℤ x j) ∙ ap whole (sym (form_is_inner n w x))
 
+-- the value of a combination
+pub pairing_of_combination : (n m : ℕ) (w : Matrix) (c : ℕ → Rational) (e : ℕ → ℕ → ℕ → Rational) (x : ℕ → ℕ → Rational)
+    → ((i j : ℕ) → i < n → j < n → sum_ℚ m (λ k. c k *ℚ e k i j) ≡ x i j) → pairing n w x ≡ sum_ℚ m (λ k. c k *ℚ pairing n w (e k))
+unfolding pairing
+pairing_of_combination n m w c e x h =
+    sum_ℚ_same n _ _ (λ i li.
+    sum_ℚ_same n _ _ (λ j lj.
+    ap (λ y. whole (w i j) *ℚ y) (sym (h i j li lj))
+    ∙ mul-sum_ℚ (whole (w i j)) m (λ k. c k *ℚ e k i j)
+    ∙ sum_ℚ_same m _ (λ k. c k *ℚ (whole (w i j) *ℚ e k i j)) (λ k lk. ring_ℚ (whole (w i j) ∷ c k ∷ e k i j ∷ []) (v0 ⊗ (v1 ⊗ v2)) (v1 ⊗ (v0 ⊗ v2)) refl))
+    ∙ sum_ℚ_swap n m (λ j k. c k *ℚ (whole (w i j) *ℚ e k i j)))
+    ∙ sum_ℚ_swap n m (λ i k. sum_ℚ n (λ j. c k *ℚ (whole (w i j) *ℚ e k i j)))
+    ∙ sum_ℚ_same m _ _ (λ k lk. sym (mul-sums_ℚ (c k) n n (λ i j. whole (w i j) *ℚ e k i j)))
+
+pub pairing_times : (n : ℕ) (w : Matrix) (t : Rational) (x : ℕ → ℕ → Rational) → pairing n w (λ i j. t *ℚ x i j) ≡ t *ℚ pairing n w x
+unfolding pairing
+pairing_times n w t x =
+    sums_ℚ_same n n _ _ (λ i j li lj. ring_ℚ (whole (w i j) ∷ t ∷ x i j ∷ []) (v0 ⊗ (v1 ⊗ v2)) (v1 ⊗ (v0 ⊗ v2)) refl)
+    ∙ sym (mul-sums_ℚ t n n (λ i j. whole (w i j) *ℚ x i j))
+
+-- of the zero matrix
+pub pairing_zero : (n : ℕ) (w : Matrix) (x : ℕ → ℕ → Rational) → ((i j : ℕ) → i < n → j < n → w i j ≡ pos 0) → pairing n w x ≡ whole (pos 0)
+unfolding pairing
+pairing_zero n w x h = sum_ℚ_none n _ (λ i li. sum_ℚ_none n _ (λ j lj. ap (λ (y : ℤ). whole y *ℚ x i j) (h i j li lj) ∙ zero_mul_ℚ (x i j)))
+
+-- at entries that are whole
+pub pairing_whole : (n : ℕ) (w s : Matrix) (x : ℕ → ℕ → Rational) → ((i j : ℕ) → i < n → j < n → x i j ≡ whole (s i j)) → pairing n w x ≡ whole (inner n w s)
+pairing_whole n w s x h = pairing_same n w w x (λ i j. whole (s i j)) (λ i j li lj. refl) h ∙ pairing-whole n w s
+
 -- p/d is 1/d times p
 ratio_as_product : (p : ℤ) (d : ℕ) → 0 < d → ratio p d ≡ ratio (pos 1) d *ℚ whole p
 unfolding whole
@@ -142,6 +171,13 @@ factorization_nonneg n w a terms h factors =
 -- where W separates A there is no factorization
 pub separated_not_factored : (n : ℕ) (w : Matrix) (a : ℕ → ℕ → Rational) (terms : List WeightedVector) → Separates n w a → IsFactorization n a terms → ⊥
 separated_not_factored n w a terms h factors = negative_not_nonneg (pairing n w a) h.negative (factorization_nonneg n w a terms h.copositive factors)
+
+-- A over one denominator: W separates it exactly where ⟨W,S⟩ is below 0, for A = S/d
+pub separates_over : (n : ℕ) (w s : Matrix) (d : ℕ) → 0 < d → Separates n w (λ i j. ratio (s i j) d) ↔ (IsCopositive n w × (inner n w s <ℤ pos 0))
+separates_over n w s d hd = (
+  λ h. (h.copositive, (negative-ratio (inner n w s) d hd).0 (subst IsNegative (pairing-ratio n w s d hd) h.negative)),
+  λ h. record { copositive = h.0; negative = subst IsNegative (sym (pairing-ratio n w s d hd)) ((negative-ratio (inner n w s) d hd).1 h.1) },
+)
 
 -- ---- the entries below n decide
 pub factorization_same : (n : ℕ) (a b : ℕ → ℕ → Rational) (terms : List WeightedVector) → ((i j : ℕ) → i < n → j < n → a i j ≡ b i j) → IsFactorization n a terms → IsFactorization n b terms

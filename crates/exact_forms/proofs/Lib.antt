@@ -16,3 +16,5 @@ pub mod Coordinates
 pub mod Denominators
 pub mod Shown
 pub mod RankOne
+pub mod Neighbours
+pub mod Rays

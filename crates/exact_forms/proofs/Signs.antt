@@ -82,6 +82,18 @@ negative-ratio p d hd = (λ h. below_or (below_zero p) h, λ h. by h (negative_o
     by h (inl l) = l
     by h (inr l) = absurd (let a = (nonneg-ratio p d hd).0 l in omega (arith, ints))
 
+pub of_whole_positive : (z : ℤ) → IsPositive (whole z) → pos 1 ≤ℤ z
+unfolding whole
+of_whole_positive z h = (positive-ratio z 1 (omega arith)).0 h
+
+pub of_whole_nonneg : (z : ℤ) → IsNonnegative (whole z) → pos 0 ≤ℤ z
+unfolding whole
+of_whole_nonneg z h = (nonneg-ratio z 1 (omega arith)).0 h
+
+pub of_whole_negative : (z : ℤ) → IsNegative (whole z) → z <ℤ pos 0
+unfolding whole
+of_whole_negative z h = (negative-ratio z 1 (omega arith)).0 h
+
 -- ---- sums and products
 pub positive_add : (x y : Rational) → IsPositive x → IsNonnegative y → IsPositive (x +ℚ y)
 unfolding ◌+ℚ◌

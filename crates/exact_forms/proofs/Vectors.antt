@@ -2,7 +2,8 @@
 use Rattle.std.specs.Prelude.{◌≡◌, ℕ, zero, suc, ◌<◌, pos, ◌⊎◌, List, [], ◌∷◌, ◌++◌, length, slice_index_or}
 use Rattle.std.proofs.Common.{arith, sym, ◌∙◌, ap₂, refl, inl, inr, subst}
 use Rattle.std.proofs.lemmas.Int.{ints}
-use Rattle.std.specs.List.{Contains}
+use Rattle.std.proofs.lemmas.List.{get_or_default}
+use Rattle.std.specs.List.{All, Contains}
 use Rattle.exact_forms.specs.Vectors.{coordinate, ComesBefore, IsIncreasing}
 
 -- the numbers at its places decide a vector
@@ -137,3 +138,10 @@ increasing_once xs d h i j li lj e = by (order i j)
     by (inl l) = absurd (before_irreflexive (slice_index_or xs j d) (subst (λ (w : List ℕ). ComesBefore w (slice_index_or xs j d)) e (increasing_places xs d h i j l lj)))
     by (inr (inl s)) = s
     by (inr (inr l)) = absurd (before_irreflexive (slice_index_or xs i d) (subst (λ (w : List ℕ). ComesBefore w (slice_index_or xs i d)) (sym e) (increasing_places xs d h j i l li)))
+
+-- ---- each of a list, by places
+pub all_from_places : (P : List ℕ → Type 0) (xs : List (List ℕ)) → ((k : ℕ) → k < length xs → P (slice_index_or xs k [])) → All P xs
+all_from_places P xs h k d l = subst P (get_or_default xs k [] d l) (h k l)
+
+pub place_of_vector : (xs : List (List ℕ)) (x : List ℕ) → Contains xs x → (k : ℕ) × (k < length xs) × (slice_index_or xs k [] ≡ x)
+place_of_vector xs x h = (h.0, h.1, get_or_default xs h.0 [] x h.1 ∙ h.2)

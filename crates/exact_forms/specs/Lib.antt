@@ -10,3 +10,4 @@ pub mod Vectors
 pub mod Copositive
 pub mod Factors
 pub mod RankOne
+pub mod Neighbours
