@@ -4,5 +4,6 @@
 mod divisor;
 mod fraction;
 mod narrow;
+mod order;
 
 pub use fraction::Fraction;
