@@ -4,3 +4,4 @@ pub mod Operations
 pub mod Products
 pub mod Sums
 pub mod Orders
+pub mod TermLists
