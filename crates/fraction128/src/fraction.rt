@@ -181,3 +181,6 @@ fn sum_of_products(a: i128, x: i128, b: i128, y: i128) -> Result<i128, IntOp>
     let right = multiply(b, y)?;
     int_add(left, right)
 }
+
+#[cfg(test)]
+mod tests;
