@@ -7,12 +7,13 @@ ghost use Rattle.exact_forms.specs.Lowest.{IsLowest};
 ghost use Rattle.exact_forms.proofs.Lowest.{lowest_parts};
 ghost use Rattle.symmetric_matrix.specs.Owed.{answer};
 ghost use Rattle.symmetric_matrix.specs.Operations.{is_owed};
+ghost use Rattle.symmetric_matrix.specs.Symmetric.{IsNarrow};
 ghost use Rattle.fraction128.specs.Recipes.{mul_ops, div_ops, sum_ops, add_ops, sub_ops};
 ghost use Rattle.fraction128.specs.Order.{order_of};
 
 use crate::divisor::common_divisor;
-use crate::narrow::{multiply, quotient};
 use crate::order::order_of_ratios;
+use crate::small::{multiply, quotient};
 use std::cmp::Ordering;
 use std::marker::Model;
 use symmetric_matrix::{IntOp, int_add};
@@ -43,7 +44,7 @@ impl Model for Fraction {
 impl Fraction {
     /// The fraction `num / den`, where `num` fits and `den` is at least 1.
     pub fn new(num: i128, den: i128) -> Fraction
-        requires fits { nat_abs num < 2 ^ 127 }
+        requires fits { IsNarrow num }
         requires positive { pos 1 ≤ℤ den }
         ensures { result ≡ ratio num (nat_abs den) }
     {
@@ -56,7 +57,7 @@ impl Fraction {
 
     /// The whole number `num`, which fits.
     pub fn whole(num: i128) -> Fraction
-        requires { nat_abs num < 2 ^ 127 }
+        requires { IsNarrow num }
         ensures { result ≡ whole num }
     {
         Fraction { num, den: 1 }
@@ -65,7 +66,7 @@ impl Fraction {
     /// The numerator in lowest terms.
     pub fn num(&self) -> i128
         ensures value { result ≡ self.now.num }
-        ensures fits { nat_abs result < 2 ^ 127 }
+        ensures fits { IsNarrow result }
     {
         self.num
     }
@@ -73,7 +74,7 @@ impl Fraction {
     /// The denominator in lowest terms, at least 1.
     pub fn den(&self) -> i128
         ensures value { result ≡ pos self.now.den }
-        ensures fits { self.now.den < 2 ^ 127 }
+        ensures fits { IsNarrow result }
     {
         self.den
     }

@@ -1,9 +1,9 @@
 -- Lists of vectors.
-use Rattle.std.specs.Prelude.{◌≡◌, ℕ, zero, suc, ◌+◌, ◌-◌, ◌<◌, ◌≤◌, ◌⊎◌, List, [], ◌∷◌, ◌++◌, length, slice_index_or}
+use Rattle.std.specs.Prelude.{◌≡◌, ℕ, zero, suc, ◌+◌, ◌-◌, ◌<◌, ◌⊎◌, List, [], ◌∷◌, ◌++◌, length, slice_index_or}
 use Rattle.std.specs.List.{Contains}
 use Rattle.std.proofs.Common.{arith, sym, ◌∙◌, ap, subst, inl, inr}
 use Rattle.std.proofs.lemmas.List.{get_or_append_left, get_or_push, length_push, get_or_default}
-use Rattle.exact_forms.specs.Vectors.{ComesBefore, IsIncreasing}
+use Rattle.exact_forms.specs.Vectors.{ComesBefore}
 use Rattle.exact_forms.proofs.Vectors.{before_transitive, increasing_push, increasing_places}
 use Rattle.symmetric_matrix.specs.Lists.{IsVectorList, CanFollow}
 

@@ -1,7 +1,7 @@
 use Rattle.std.proofs.lemmas.Int.{ints}
 use Rattle.std.proofs.Common.{◌≡◌, arith, sym, ◌∙◌, ap, pos, nat_abs, ℤ}
 use Rattle.commutative_ring.specs.Gcd.{gcd_of}
-use Rattle.fraction128.proofs.Binary.{gcd_of_one}
+use Rattle.symmetric_matrix.proofs.BinaryDivisors.{gcd_of_one}
 use Rattle.fraction128.proofs.divisor.common_divisor.Goals as goal
 
 pub returns-then-den-eq1 : goal.returns-then-den-eq1

@@ -9,15 +9,15 @@ use symmetric_matrix::{IntOp, int_mul};
 
 // The magnitude is at most 2^63 - 1.
 #[inline]
-pub fn is_narrow(value: i128) -> bool
+pub fn is_small(value: i128) -> bool
     ensures { IsTrue result ↔ (nat_abs value < 2 ^ 63) }
 {
     -(i64::MAX as i128) <= value && value <= i64::MAX as i128
 }
 
-/// The product of two narrow numbers.
+/// The product of two small numbers.
 #[inline]
-pub fn narrow_product(left: i128, right: i128) -> i128
+pub fn small_product(left: i128, right: i128) -> i128
     requires left { nat_abs left < 2 ^ 63 }
     requires right { nat_abs right < 2 ^ 63 }
     ensures { result ≡ left *ℤ right }
@@ -25,13 +25,13 @@ pub fn narrow_product(left: i128, right: i128) -> i128
     (left as i64 as i128) * (right as i64 as i128)
 }
 
-/// The product, or the operation where it does not fit. Of two narrow numbers it fits, with no test.
+/// The product, or the operation where it does not fit. Of two small numbers it fits, with no test.
 #[inline]
 pub fn multiply(left: i128, right: i128) -> Result<i128, IntOp>
     ensures { result ≡ answer is_owed (mul_op left right ∷ []) (left *ℤ right) }
 {
-    if is_narrow(left) && is_narrow(right) {
-        Ok(narrow_product(left, right))
+    if is_small(left) && is_small(right) {
+        Ok(small_product(left, right))
     } else {
         int_mul(left, right)
     }
@@ -45,7 +45,7 @@ pub fn quotient(value: i128, by: i128) -> i128
 {
     if by == 1 {
         value
-    } else if is_narrow(value) && is_narrow(by) {
+    } else if is_small(value) && is_small(by) {
         (value as i64 / by as i64) as i128
     } else {
         value / by

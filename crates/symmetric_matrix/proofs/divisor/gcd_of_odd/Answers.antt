@@ -1,7 +1,7 @@
 use Rattle.std.proofs.Common.{sym, ◌∙◌, ap}
 use Rattle.commutative_ring.specs.Gcd.{gcd_of}
-use Rattle.fraction128.proofs.Binary.{step, gcd_of_same}
-use Rattle.fraction128.proofs.divisor.gcd_of_odd.Goals as goal
+use Rattle.symmetric_matrix.proofs.BinaryDivisors.{step, gcd_of_same}
+use Rattle.symmetric_matrix.proofs.divisor.gcd_of_odd.Goals as goal
 
 pub loop-a-preserved : goal.loop-a-preserved
 loop-a-preserved c =
