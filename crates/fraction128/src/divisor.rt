@@ -12,5 +12,11 @@ pub fn common_divisor(value: i128, den: i128) -> i128
     requires den { IsNarrow den }
     ensures { result ≡ pos (gcd_of (nat_abs value) (nat_abs den)) }
 {
-    if den == 1 { 1 } else { gcd(value, den) }
+    if den == 1 {
+        return 1;
+    }
+    if value == 1 {
+        return 1;
+    }
+    gcd(value, den)
 }

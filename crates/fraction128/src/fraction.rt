@@ -79,6 +79,7 @@ impl Fraction {
         self.den
     }
 
+    /// The opposite number.
     pub fn neg(self) -> Fraction
         ensures { result ≡ neg_ℚ self }
     {
@@ -88,6 +89,7 @@ impl Fraction {
         }
     }
 
+    /// Whether the fraction is 0.
     pub fn is_zero(&self) -> bool
         ensures { IsTrue result ↔ (self.now ≡ whole (pos 0)) }
     {
@@ -102,7 +104,10 @@ impl Fraction {
         order_of_ratios(self.num, self.den, other.num, other.den)
     }
 
-    /// The sum, or the first operation of `add_ops` that does not fit.
+    /// The sum a/b + c/d, or the first operation of its recipe that does not fit.
+    ///
+    /// With g = gcd(b, d) these are u = a·(d/g), v = c·(b/g), t = u + v, and with h = gcd(t, g) the denominator
+    /// (b/g)·(d/h). The numerator is t/h.
     pub fn add(self, other: Fraction) -> Result<Fraction, IntOp>
         ensures { result ≡ answer is_owed (add_ops self other) (self +ℚ other) }
     {
@@ -129,14 +134,16 @@ impl Fraction {
         Ok(Fraction::new(sum, self.den))
     }
 
-    /// The difference, or the first operation of `sub_ops` that does not fit.
+    /// The difference, or the first operation that does not fit: those of the sum with the opposite of `other`.
     pub fn sub(self, other: Fraction) -> Result<Fraction, IntOp>
         ensures { result ≡ answer is_owed (sub_ops self other) (self -ℚ other) }
     {
         self.add(other.neg())
     }
 
-    /// The product, or the first operation of `mul_ops` that does not fit.
+    /// The product of a/b and c/d, or the first operation of its recipe that does not fit.
+    ///
+    /// With g = gcd(a, d) and h = gcd(c, b) these are the numerator (a/g)·(c/h) and the denominator (b/h)·(d/g).
     pub fn mul(self, other: Fraction) -> Result<Fraction, IntOp>
         ensures { result ≡ answer is_owed (mul_ops self other) (self *ℚ other) }
     {
@@ -147,7 +154,8 @@ impl Fraction {
         Ok(Fraction { num, den })
     }
 
-    /// The quotient, or the first operation of `div_ops` that does not fit. `other` is not zero.
+    /// The quotient, or the first operation that does not fit: those of the product with `other` turned over, its
+    /// sign moved to the numerator. `other` is not zero.
     pub fn div(self, other: Fraction) -> Result<Fraction, IntOp>
         requires { other ≢ whole (pos 0) }
         ensures { result ≡ answer is_owed (div_ops self other) (self /ℚ other) }
