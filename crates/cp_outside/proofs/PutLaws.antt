@@ -59,4 +59,8 @@ AppendsFront-piece None written bytes = AppendsFront-all _ _ bytes (sym (appende
 AppendsFront-piece (Some keep) written bytes =
     record { kept = keep; appends = sym (appended-Some written (take keep bytes)) }
 
-pub ruleset puts = (appended-Some, AppendsFront-piece)
+-- where nothing is told, nothing is said
+pub AppendsFront-untold : (bytes : List ℕ) → AppendsFront None None bytes
+AppendsFront-untold bytes = AppendsFront-all _ _ bytes (sym (appended-None bytes))
+
+pub ruleset puts = (appended-Some, appended-None, AppendsFront-piece, AppendsFront-untold)

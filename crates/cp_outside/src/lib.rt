@@ -6,11 +6,15 @@ mod failed_names;
 mod files;
 mod mem_files;
 mod mem_sink;
+mod real_files;
+mod real_sink;
 mod sink;
 
 pub use files::{Files, ReadEnd};
 pub use mem_files::MemFiles;
 pub use mem_sink::{MemSink, PlannedFailure};
+pub use real_files::RealFiles;
+pub use real_sink::RealSink;
 pub use sink::{PutEnd, Sink};
 
 #[cfg(test)]

@@ -21,8 +21,8 @@ pub struct MemFiles {
 impl MemFiles {
     ghost use Rattle.cp_outside.specs.MemFiles.{told_by, faults_by};
 
-    #[tactic(auto, unfolding(crate::specs::MemFiles::told_by, crate::specs::MemFiles::faults_by))]
     /// No files.
+    #[tactic(auto, unfolding(crate::specs::MemFiles::told_by, crate::specs::MemFiles::faults_by))]
     pub fn new(alloc: Global) -> MemFiles
         ensures empty { (name : List ℕ) → told_by result name ≡ None }
         ensures faultless { (name : List ℕ) → faults_by result name ≡ 0 }
@@ -34,8 +34,8 @@ impl MemFiles {
         }
     }
 
-    #[tactic(auto, using(std::proofs::lemmas::Map::Text::text_keys), unfolding(crate::specs::MemFiles::told_by, crate::specs::MemFiles::faults_by))]
     /// Adds a file with these bytes, in place of one that had this name. At an `Err` all is as before.
+    #[tactic(auto, using(std::proofs::lemmas::Map::Text::text_keys), unfolding(crate::specs::MemFiles::told_by, crate::specs::MemFiles::faults_by))]
     pub fn add(&mut self, name: &str, bytes: &[u8]) -> Result<(), AllocError>
         ensures added { OnOk result (told_by self.new name.now ≡ Some bytes.now) }
         ensures others_stay { OnOk result ((other : List ℕ) → other ≢ name.now → told_by self.new other ≡ told_by self.old other) }

@@ -1,5 +1,6 @@
 use super::*;
 use std::alloc::AllocError;
+use std::{fs, io};
 
 #[test]
 fn memory_tells_the_bytes_added_last_and_fails_at_an_unknown_name(
@@ -61,4 +62,30 @@ fn a_file_is_copied_through_the_traits(rt: HostRuntime) -> Result<(), AllocError
     assert!(rt; !copy(&mut files, &mut sink, &mut buffer, "b"));
     assert_eq!(rt; sink.bytes(), b"text".as_slice());
     Ok(())
+}
+
+#[test]
+fn real_files_are_read(rt: HostRuntime) -> io::Result<()> {
+    let name = "cp_outside_test_file";
+    fs::write(&rt, name, "text")?;
+    let mut files = RealFiles::new(&rt, rt.alloc());
+    let mut into = Vec::new(rt.alloc());
+    let rows: [(&str, usize, ReadEnd, &[u8]); 4] = [
+        (name, 4, ReadEnd::Whole, b"text"),
+        (name, 3, ReadEnd::TooLong, b""),
+        ("cp_outside_no_such_file", 4, ReadEnd::Failed, b""),
+        (name, 5, ReadEnd::Whole, b"text"),
+    ];
+    for (name, limit, end, bytes) in rows {
+        assert_eq!(rt; files.read_file(name, &mut into, limit), end, "{name}");
+        assert_eq!(rt; into.as_slice(), bytes, "{name}");
+    }
+    fs::remove_file(&rt, name)
+}
+
+#[test]
+fn the_standard_output_takes_all_bytes(rt: HostRuntime) {
+    let mut sink = RealSink::new(&rt);
+    assert_eq!(rt; sink.put(b"a line of a test\n"), PutEnd::Done);
+    assert_eq!(rt; sink.put(b""), PutEnd::Done);
 }
