@@ -1,5 +1,5 @@
 -- A count that rose in a call rose in each run of calls of which that call is a part.
-use Rattle.std.proofs.Common.{ℕ, ◌+◌, ◌<◌, ◌≤◌, arith}
+use Rattle.std.proofs.Common.{ℕ, ◌≤◌, arith}
 use Rattle.cp_outside.specs.Faults.{Rose, RoseOrFull}
 
 -- the call comes after others

@@ -1,5 +1,5 @@
 -- What several puts in turn leave of what a sink tells.
-use Rattle.std.proofs.Common.{◌≡◌, ℕ, ◌+◌, ◌≤◌, min, List, [], ◌∷◌, ◌++◌, length, take, Option, Some, None, refl, sym, ap, ◌∙◌, append_assoc, arith}
+use Rattle.std.proofs.Common.{◌≡◌, ℕ, ◌+◌, min, List, [], ◌++◌, length, take, Option, Some, None, refl, sym, ap, append_assoc, arith}
 use Rattle.std.proofs.lemmas.List.{append-nil, take-append-le, take_min, take_all}
 use Rattle.std.proofs.Math.Seq.{take-append-add}
 use Rattle.cp_outside.specs.Puts.{appended, AppendsFront}

@@ -1,7 +1,8 @@
 //! Files in memory, for tests.
 
-ghost use Rattle.std.specs.Prelude.{◌≡◌, ◌≢◌, ℕ, ◌<◌, ◌≤◌, List, [], Some, None, length, IfSome, OnOk, OnErr};
+ghost use Rattle.std.specs.Prelude.{◌≡◌, ◌≢◌, ◌⊎◌, ℕ, ◌<◌, ◌≤◌, List, [], Some, None, length, IfSome, IfNone, OnOk, OnErr};
 ghost use Rattle.cp_outside.specs.Faults.{Rose};
+ghost use Rattle.cp_outside.specs.Reads.{OnWhole, OnTooLong, OnReadFailed, UnlessWhole};
 
 use crate::failed_names::add_failed;
 use crate::files::{Files, ReadEnd};
@@ -57,7 +58,19 @@ impl Files for MemFiles {
     ghost faults = { faults_by };
 
     #[tactic(auto, unfolding(crate::specs::MemFiles::told_by, crate::specs::MemFiles::faults_by))]
-    fn read_file(&mut self, name: &str, into: &mut Vec<u8>, limit: usize) -> ReadEnd {
+    fn read_file(&mut self, name: &str, into: &mut Vec<u8>, limit: usize) -> ReadEnd
+        ensures whole { OnWhole result (IfSome (told_by self.old name.now) (λ bytes. into.new.items ≡ bytes)) }
+        ensures within_limit { OnWhole result (length into.new.items ≤ limit) }
+        ensures too_long { OnTooLong result (IfSome (told_by self.old name.now) (λ bytes. limit < length bytes)) }
+        ensures failed { OnReadFailed result (Rose (faults_by self.old name.now) (faults_by self.new name.now)) }
+        ensures empty { UnlessWhole result (into.new.items ≡ []) }
+        ensures never_falls { faults_by self.old name.now ≤ faults_by self.new name.now }
+        ensures told_stays { (other : List ℕ) → told_by self.new other ≡ told_by self.old other }
+        ensures others_stay { (other : List ℕ) → other ≢ name.now → faults_by self.new other ≡ faults_by self.old other }
+        // A name that was added can be read, and no other.
+        ensures known { IfSome (told_by self.old name.now) (λ _. result ≢ ReadEnd.Failed) }
+        ensures unknown { IfNone (told_by self.old name.now) ((result ≡ ReadEnd.Failed) ⊎ (result ≡ ReadEnd.OutOfMemory)) }
+    {
         into.clear();
         let Some(bytes) = self.files.get(name) else {
             return match add_failed(self.alloc, &mut self.failed, name) {
