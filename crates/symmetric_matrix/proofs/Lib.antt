@@ -1,1 +1,12 @@
 pub mod Owed
+pub mod Places
+pub mod Lists
+pub mod Runs
+pub mod Frames
+pub mod Telescopes
+pub mod Weights
+pub mod TrianglePlaces
+pub mod Recipes
+pub mod FormSteps
+pub mod InnerSteps
+pub mod Divisors
