@@ -53,8 +53,11 @@ fn solve(arguments: &[String]) -> Result<Command<'_>, Usage>
 }
 
 /// Each list of words is read in one way: it is a command line for one request, or is at fault at one position.
+/// However many words there are, that position is at most 32, since no option is given twice and plain arguments
+/// are few.
 pub fn words_are_read_one_way()
-    ensures { (words : List (List ℕ)) → IsReadOneWay words }
+    ensures one_way { (words : List (List ℕ)) → IsReadOneWay words }
+    ensures near { (words : List (List ℕ)) (position : ℕ) → IsUsageAt words position → position ≤ 32 }
 {}
 
 #[cfg(test)]
