@@ -1,0 +1,4 @@
+pub mod FaultPlaces
+pub mod NearFaults
+pub mod OneWay
+pub mod Solve
