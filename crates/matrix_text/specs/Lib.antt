@@ -1,0 +1,9 @@
+pub mod Lines
+pub mod Content
+pub mod Numbers
+pub mod Matrix
+pub mod Rows
+pub mod Symmetry
+pub mod Spelling
+pub mod Canonical
+pub mod Numerators
