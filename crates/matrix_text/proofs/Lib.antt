@@ -11,3 +11,4 @@ pub mod Entries
 pub mod Tables
 pub mod Spelled
 pub mod Ranges
+pub mod Squares

@@ -4,7 +4,7 @@ use Rattle.std.specs.Fmt.{decimal}
 use Rattle.std.proofs.lemmas.List.{append-nil, map_more, flat_map_more, length-map}
 use Rattle.matrix_text.specs.Lines.{content_lines, end_line}
 use Rattle.matrix_text.specs.declared.entry.Entry.{Entry}
-use Rattle.matrix_text.specs.declared.rows.Row.{Row}
+use Rattle.matrix_text.specs.declared.table.Row.{Row}
 use Rattle.matrix_text.specs.declared.table.Table.{Table}
 use Rattle.matrix_text.specs.declared.fault.TextFault.{TextFault}
 use Rattle.matrix_text.specs.Matrix.{TextRow, table_of}

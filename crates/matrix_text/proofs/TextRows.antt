@@ -2,7 +2,7 @@
 use Rattle.std.proofs.Common.{◌≡◌, ℕ, suc, ◌+◌, ◌-◌, ◌<◌, ◌≤◌, List, [], ◌∷◌, length, take, set, map, Ok, Err, refl, sym, ap, arith}
 use Rattle.std.proofs.lemmas.List.{append-nil, take_more_set, map_push}
 use Rattle.matrix_text.specs.Lines.{TextLine}
-use Rattle.matrix_text.specs.declared.rows.Row.{Row}
+use Rattle.matrix_text.specs.declared.table.Row.{Row}
 use Rattle.matrix_text.specs.declared.fault.TextFault.{TextFault}
 use Rattle.matrix_text.specs.declared.fault.TextKind.TheVariants.{MissingRow, ExtraLine}
 use Rattle.matrix_text.specs.Matrix.{TextRow, row_of, rows_of, in_line}

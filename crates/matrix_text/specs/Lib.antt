@@ -7,3 +7,4 @@ pub mod Symmetry
 pub mod Spelling
 pub mod Canonical
 pub mod Numerators
+pub mod Square

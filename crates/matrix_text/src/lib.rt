@@ -9,6 +9,7 @@ pub mod laws;
 pub mod numbers;
 pub mod plain;
 pub mod rows;
+pub mod square;
 pub mod table;
 #[cfg(test)]
 mod tests;

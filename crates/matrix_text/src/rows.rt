@@ -1,6 +1,6 @@
 //! The rows of a text.
 
-ghost use Rattle.std.specs.Prelude.{◌≡◌, ◌≤◌, take, IfOk, List, Err};
+ghost use Rattle.std.specs.Prelude.{◌≡◌, ◌≤◌, length, take, IfOk, List, Err};
 ghost use Rattle.matrix_text.specs.Lines.{words};
 ghost use Rattle.matrix_text.specs.Content.{line_of};
 ghost use Rattle.matrix_text.specs.Matrix.{Gives, row_of, rows_of, in_line, is_ascii, TextRow};
@@ -10,12 +10,8 @@ ghost use Rattle.matrix_text.specs.declared.fault.TextKind.TheVariants.{ExtraLin
 use crate::entry::{Entry, entry_in};
 use crate::fault::{TextFault, TextKind};
 use crate::content::{ContentLines, TextLine};
+use crate::table::{EMPTY, MOST, Row, ZERO};
 use crate::words::Words;
-
-/// The largest size.
-pub const MOST: usize = 6;
-
-const ZERO: Entry = Entry { num: 0, den: 1 };
 
 pub fn is_ascii_line(line: &[u8]) -> bool
     ensures { result ≡ is_ascii line.now }
@@ -42,18 +38,6 @@ pub fn row_in(line: &[u8], size: usize) -> Result<[Entry; MOST], TextKind>
         Some(_) => Err(TextKind::LongRow),
     }
 }
-
-/// A row, and the line where it stands.
-#[derive(Clone, Copy)]
-pub struct Row {
-    pub line: u32,
-    pub entries: [Entry; MOST],
-}
-
-const EMPTY: Row = Row {
-    line: 0,
-    entries: [ZERO; MOST],
-};
 
 pub fn fault(kind: TextKind, line: u32) -> TextFault
     ensures { result ≡ record { kind = kind; line = line } }

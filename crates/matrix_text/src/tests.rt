@@ -1,6 +1,6 @@
 use crate::whole::{WholeFail, read_whole};
 use crate::fault::{TextFault, TextKind};
-use crate::table::read_table;
+use crate::square::read_table;
 use std::test::Fail;
 
 #[test]

@@ -6,7 +6,8 @@ ghost use Rattle.matrix_text.specs.Numerators.{numbers};
 ghost use Rattle.matrix_text.specs.declared.whole.WholeFail.TheVariants.{NotWhole, OutOfMemory};
 
 use crate::writing::push_table;
-use crate::table::{Table, read_table};
+use crate::square::read_table;
+use crate::table::Table;
 use std::alloc::{AllocError, Global};
 
 /// Why a text is not read.

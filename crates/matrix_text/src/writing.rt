@@ -5,7 +5,7 @@ ghost use Rattle.matrix_text.specs.Spelling.{rows_text};
 ghost use Rattle.matrix_text.specs.Canonical.{table_text};
 ghost use Rattle.matrix_text.specs.Numerators.{numbers, row_numbers};
 
-use crate::rows::{MOST, Row};
+use crate::table::{MOST, Row};
 use crate::table::Table;
 use std::alloc::AllocError;
 use crate::plain::{push_digits, push_row};
