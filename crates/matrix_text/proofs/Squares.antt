@@ -150,12 +150,17 @@ full-lower none n rows square mirror =
     entries : (i j : ℕ) → i < n → j < n → get_or (get_or (full none n (lower_of rows)) i []) j none ≡ get_or (get_or rows i []) j none
     entries i j lt left = entry_at-full none n (lower_of rows) i j lt left ∙ here i j lt left
 
-part : {A : Type 0} (d : A) (xs : List A) (a n : ℕ) → a + n ≤ length xs → map (λ j. get_or xs (a + j) d) (range_with_len 0 n) ++ drop (a + n) xs ≡ drop a xs
-part {A} d xs a zero le = (let same : a + 0 ≡ a = omega arith in rw same refl)
-part {A} d xs a (suc n) le =
-    let one : suc n ≡ n + 1 = omega arith in
+part-more : {A : Type 0} (d : A) (xs : List A) (a n : ℕ) → a + n < length xs → map (λ j. get_or xs (a + j) d) (range_with_len 0 n) ++ drop (a + n) xs ≡ drop a xs
+    → map (λ j. get_or xs (a + j) d) (range_with_len 0 (n + 1)) ++ drop (a + (n + 1)) xs ≡ drop a xs
+part-more {A} d xs a n lt e =
     let same : a + (n + 1) ≡ a + n + 1 = omega arith in
-    rw (one, map-range_with_len_more (λ j. get_or xs (a + j) d) 0 n n (omega arith), append_assoc, same) (ap (λ (t : List A). map (λ j. get_or xs (a + j) d) (range_with_len 0 n) ++ t) (sym (drop_more xs (a + n) d (omega arith))) ∙ part d xs a n (omega arith))
+    rw (map-range_with_len_more (λ j. get_or xs (a + j) d) 0 n n (omega arith), append_assoc, same) (ap (λ (t : List A). map (λ j. get_or xs (a + j) d) (range_with_len 0 n) ++ t) (sym (drop_more xs (a + n) d lt)) ∙ e)
+
+part : {A : Type 0} (d : A) (xs : List A) (a n : ℕ) → a + n ≤ length xs → map (λ j. get_or xs (a + j) d) (range_with_len 0 n) ++ drop (a + n) xs ≡ drop a xs
+part d xs a zero le = (let same : a + 0 ≡ a = omega arith in rw same refl)
+part {A} d xs a (suc n) le =
+    let one : n + 1 ≡ suc n = omega arith in
+    subst (λ (m : ℕ). map (λ j. get_or xs (a + j) d) (range_with_len 0 m) ++ drop (a + m) xs ≡ drop a xs) one (part-more d xs a n (omega arith) (part d xs a n (omega arith)))
 
 map-range : {A : Type 0} (f g : ℕ → A) (a n : ℕ) → ((k : ℕ) → a ≤ k → k < a + n → f k ≡ g k) → map f (range_with_len a n) ≡ map g (range_with_len a n)
 map-range f g a zero h = refl
