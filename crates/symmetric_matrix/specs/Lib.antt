@@ -1,2 +1,4 @@
 pub mod Owed
 pub mod Operations
+pub mod Symmetric
+pub mod Lists
