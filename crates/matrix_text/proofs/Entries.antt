@@ -5,15 +5,16 @@ use Rattle.std.specs.Fmt.{signed_decimal}
 use Rattle.std.proofs.lemmas.Bool.{ne_eqb, le-ltb, lt-ltb}
 use Rattle.std.proofs.lemmas.List.Sums.{position_or_len_is, list_all-from_AllPass}
 use Rattle.std.proofs.lemmas.List.Elements.{All-append, All-cons, All-nil}
+use Rattle.std.specs.Prelude.{nat_abs}
 use Rattle.matrix_text.specs.Lines.{is_blank, is_line_feed, words, are_skipped}
 use Rattle.matrix_text.specs.Numbers.{value_after, magnitude}
 use Rattle.matrix_text.specs.Matrix.{is_slash, is_large, ratio_of, entry_of, row_of, is_ascii, in_line}
-use Rattle.matrix_text.specs.Canonical.{magnitude_of as size_of, whole}
+use Rattle.matrix_text.specs.Canonical.{whole}
 use Rattle.matrix_text.proofs.Cuts.{IsWord, words-join, IsLine}
 use Rattle.matrix_text.proofs.Numerals.{is_signed-decimal, magnitude-decimal, signed_value-decimal, All-signed, some-signed}
 
 abbrev pub IsSmall : ℤ → Type 0
-IsSmall z = size_of z < 2 ^ 63
+IsSmall z = nat_abs z < 2 ^ 63
 
 position-none : (p : ℕ → Bool) (xs : List ℕ) → All (λ b. p b ≡ false) xs → position p xs ≡ None
 position-none p xs h =
@@ -24,7 +25,7 @@ pub entry-signed : (z : ℤ) → IsSmall z → entry_of (signed_decimal z) ≡ O
 unfolding entry_of ratio_of value_after
 entry-signed z h =
     let plain = position-none is_slash (signed_decimal z) (All-signed (λ b. is_slash b ≡ false) refl (λ b low high. ne_eqb b 47 (λ e. omega arith)) z (omega arith)) in
-    let small : is_large (magnitude (signed_decimal z)) ≡ false = rw (magnitude-decimal z (omega arith)) (le-ltb 9223372036854775807 (size_of z) (omega arith)) in
+    let small : is_large (magnitude (signed_decimal z)) ≡ false = rw (magnitude-decimal z (omega arith)) (le-ltb 9223372036854775807 (nat_abs z) (omega arith)) in
     rw (plain, is_signed-decimal z (omega arith), small, signed_value-decimal z (omega arith)) refl
 
 pub row-signed : (row : List ℤ) → AllByRecursion IsSmall row → row_of (length row) (map signed_decimal row) ≡ Ok (map whole row)
@@ -54,7 +55,7 @@ All-join P space (w ∷ v ∷ ws) h = All-append P w (32 ∷ join_with_byte 32 (
 
 bytes-signed : (P : ℕ → Type 0) → P 45 → ((b : ℕ) → 48 ≤ b → b ≤ 57 → P b) → (row : List ℤ) → AllByRecursion IsSmall row → AllByRecursion (All P) (map signed_decimal row)
 bytes-signed P minus digit [] h = tt
-bytes-signed P minus digit (z ∷ row) h = (All-signed P minus digit z (let k : size_of z < 2 ^ 63 = h.0 in omega arith), bytes-signed P minus digit row h.1)
+bytes-signed P minus digit (z ∷ row) h = (All-signed P minus digit z (let k : nat_abs z < 2 ^ 63 = h.0 in omega arith), bytes-signed P minus digit row h.1)
 
 abbrev pub row_line : List ℤ → List ℕ
 row_line row = join_with_byte 32 (map signed_decimal row)
@@ -79,5 +80,5 @@ not_comment b low high = ne_eqb b 35 (λ e. omega arith)
 pub kept-row : (row : List ℤ) → 0 < length row → AllByRecursion IsSmall row → are_skipped (words (row_line row)) ≡ false
 kept-row [] some h = absurd (omega arith)
 kept-row (z ∷ row) some h =
-    let k : size_of z < 2 ^ 63 = h.0 in
+    let k : nat_abs z < 2 ^ 63 = h.0 in
     rw (words-row (z ∷ row) h) (All-signed (λ b. eqb b 35 ≡ false) refl not_comment z (omega arith) 0 0 (some-signed z (omega arith)))

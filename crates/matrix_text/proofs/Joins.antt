@@ -2,9 +2,8 @@
 use Rattle.std.proofs.Common.{◌≡◌, ℕ, zero, suc, ◌+◌, ◌<◌, ◌≤◌, List, [], ◌∷◌, ◌++◌, length, get_or, take, map, ℤ, refl, sym, ap, ◌∙◌, append_assoc, arith}
 use Rattle.std.specs.List.{join_with_byte}
 use Rattle.std.specs.Fmt.{signed_decimal}
-use Rattle.std.specs.Global.{Vec}
-use Rattle.std.proofs.lemmas.List.{append-nil, map_more, take_all, length-take, length-map, flat_map_more}
-use Rattle.matrix_text.specs.Spelling.{row_text, rows_text, separated}
+use Rattle.std.proofs.lemmas.List.{append-nil, map_more, take_all, length-take, length-map}
+use Rattle.matrix_text.specs.Spelling.{row_text, separated}
 use Rattle.matrix_text.proofs.Digits.{Extends-same, Extends-append, Extends-then}
 
 join_push : (ws : List (List ℕ)) (w : List ℕ) → join_with_byte 32 (ws ++ w ∷ []) ≡ join_with_byte 32 ws ++ separated (length ws) w
@@ -30,22 +29,6 @@ pub row_start : (row : List ℤ) (old : List ℕ) → old ≡ old ++ join_with_b
 row_start row old = sym (append-nil old)
 
 pub ruleset row_steps = (column_more, row_end, row_start, Extends-same, Extends-append, Extends-then)
-
-pub rows_more : (rows : List (Vec ℤ)) (i : ℕ) (row : Vec ℤ) (old mid new : List ℕ) → i < length rows → row ≡ get_or rows i row → mid ≡ old ++ rows_text (map (λ r. r.items) (take i rows)) → new ≡ mid ++ row_text row.items
-    → new ≡ old ++ rows_text (map (λ r. r.items) (take (i + 1) rows))
-unfolding rows_text
-rows_more rows i row old mid new lt is e f =
-    let more : map (λ (r : Vec ℤ). r.items) (take (i + 1) rows) ≡ map (λ (r : Vec ℤ). r.items) (take i rows) ++ row.items ∷ [] = map_more (λ (r : Vec ℤ). r.items) rows i row lt ∙ ap (λ (r : Vec ℤ). map (λ (q : Vec ℤ). q.items) (take i rows) ++ r.items ∷ []) (sym is) in
-    rw (f, e, more) (flat_map_more row_text old (map (λ (r : Vec ℤ). r.items) (take i rows)) row.items)
-
-pub rows_start : (rows : List (Vec ℤ)) (old : List ℕ) → old ≡ old ++ rows_text (map (λ r. r.items) (take 0 rows))
-unfolding rows_text
-rows_start rows old = sym (append-nil old)
-
-pub rows_end : (rows : List (Vec ℤ)) (i : ℕ) (old new : List ℕ) → length rows ≤ i → new ≡ old ++ rows_text (map (λ r. r.items) (take i rows)) → new ≡ old ++ rows_text (map (λ r. r.items) rows)
-rows_end rows i old new le e = let all = take_all i rows le in rw (e, all) refl
-
-pub ruleset rows_steps = (rows_more, rows_start, rows_end, Extends-same, Extends-then)
 
 pub first_column : (column : ℕ) (word old new : List ℕ) → column ≡ 0 → new ≡ old ++ word → new ≡ old ++ separated column word
 unfolding separated

@@ -12,3 +12,5 @@ pub mod Tables
 pub mod Spelled
 pub mod Ranges
 pub mod Squares
+pub mod Symmetries
+pub mod WholeTexts

@@ -4,6 +4,7 @@ use Rattle.std.specs.List.{AllByRecursion}
 use Rattle.std.specs.Str.{bytes_eq}
 use Rattle.std.proofs.lemmas.Bool.{or_parts, and_parts, ltb-true, ltb-false, cases_Bool}
 use Rattle.std.proofs.lemmas.List.{length-map}
+use Rattle.std.specs.Prelude.{nat_abs}
 use Rattle.matrix_text.specs.Lines.{words, TextLine, Content, content_lines, end_line}
 use Rattle.matrix_text.specs.Numbers.{is_whole, whole_value, is_signed, magnitude, signed_value, begins_with_minus}
 use Rattle.matrix_text.specs.declared.entry.Entry.{Entry}
@@ -13,7 +14,7 @@ use Rattle.matrix_text.specs.declared.fault.TextKind.TheVariants.{NotAscii, NoHe
 use Rattle.matrix_text.specs.declared.fault.TextFault.{TextFault}
 use Rattle.matrix_text.specs.Matrix.{◌>>=◌, TextRow, is_large, is_slash, ratio_of, parted, entry_of, row_of, rows_of, header_of, size_of_word, is_ascii, at_line, in_line, table_of, table_of_lines}
 use Rattle.matrix_text.specs.Rows.{table_rows}
-use Rattle.matrix_text.specs.Canonical.{magnitude_of, AreRows, IsTable}
+use Rattle.matrix_text.specs.Canonical.{AreRows, IsTable}
 use Rattle.matrix_text.specs.Numerators.{numbers}
 use Rattle.matrix_text.proofs.Spelled.{nums, nums-table}
 
@@ -31,13 +32,13 @@ ok x = Ok x
 ok_is : {A E : Type 0} (x y : A) → ◌≡◌ {A = Result A E} (Ok x) (Ok y) → x ≡ y
 ok_is x y e = cc
 
-magnitude-value : (b : Bool) (m : ℕ) → magnitude_of (cond b (neg_ℤ (pos m)) (pos m)) ≡ m
+magnitude-value : (b : Bool) (m : ℕ) → nat_abs (cond b (neg_ℤ (pos m)) (pos m)) ≡ m
 magnitude-value true zero = refl
 magnitude-value true (suc m) = refl
 magnitude-value false m = refl
 
 abbrev pub IsSmallEntry : Entry → Type 0
-IsSmallEntry x = magnitude_of x.num < 2 ^ 63
+IsSmallEntry x = nat_abs x.num < 2 ^ 63
 
 ratio-small : (top bottom : List ℕ) (x : Entry) → ratio_of top bottom ≡ Ok x → IsSmallEntry x
 unfolding ratio_of signed_value
@@ -83,7 +84,7 @@ line-ok read line x e = ascii-ok (is_ascii line.bytes) (read (words line.bytes))
 nothing : {A : Type 0} (x : A) (line : TextLine) → in_line {A = A} (λ others. Err ExtraLine) line ≡ Ok x → ⊥
 nothing x line e = let h = line-ok (λ others. Err ExtraLine) line x e in cc
 
-numbers-small : (xs : List Entry) → AllByRecursion IsSmallEntry xs → AllByRecursion (λ z. magnitude_of z < 2 ^ 63) (map (λ (e : Entry). e.num) xs)
+numbers-small : (xs : List Entry) → AllByRecursion IsSmallEntry xs → AllByRecursion (λ z. nat_abs z < 2 ^ 63) (map (λ (e : Entry). e.num) xs)
 numbers-small [] h = tt
 numbers-small (x ∷ xs) h = (h.0, numbers-small xs h.1)
 

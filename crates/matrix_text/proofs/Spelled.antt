@@ -26,7 +26,7 @@ rows_push f rows i row old mid new lt e g = rw (g, e, map_more f rows i row lt) 
 unfoldable pub nums : TextRow → List ℤ
 nums row = map (λ (e : Entry). e.num) row.entries
 
-map-map : {A B C : Type 0} (f : A → B) (g : B → C) (xs : List A) → map g (map f xs) ≡ map (λ x. g (f x)) xs
+pub map-map : {A B C : Type 0} (f : A → B) (g : B → C) (xs : List A) → map g (map f xs) ≡ map (λ x. g (f x)) xs
 map-map f g [] = refl
 map-map f g (x ∷ xs) = ap (λ ys. g (f x) ∷ ys) (map-map f g xs)
 
@@ -34,7 +34,7 @@ unwhole : (row : List ℤ) → map (λ (e : Entry). e.num) (map whole row) ≡ r
 unwhole [] = refl
 unwhole (z ∷ row) = ap (λ (r : List ℤ). z ∷ r) (unwhole row)
 
-nums-rows : (k : ℕ) (rows : List (List ℤ)) → map nums (text_rows_from k rows) ≡ rows
+pub nums-rows : (k : ℕ) (rows : List (List ℤ)) → map nums (text_rows_from k rows) ≡ rows
 unfolding nums
 nums-rows k [] = refl
 nums-rows k (row ∷ rows) = rw (unwhole row, nums-rows (k + 1) rows) refl

@@ -1,9 +1,9 @@
 -- From the rows of a symmetric matrix to its lower triangle, and back.
-use Rattle.std.proofs.Common.{◌≡◌, ℕ, zero, suc, ◌+◌, ◌-◌, ◌<◌, ◌≤◌, Bool, true, false, not, ◌&&◌, cond, if◌then◌else◌, nat_lt, List, [], ◌∷◌, ◌++◌, length, get_or, take, drop, map, Option, Some, None, find, refl, sym, ap, subst, ◌∙◌, inl, inr, arith, append_assoc, length-append}
+use Rattle.std.proofs.Common.{◌≡◌, ℕ, zero, suc, ◌+◌, ◌-◌, ◌<◌, ◌≤◌, Bool, true, false, not, cond, if◌then◌else◌, nat_lt, List, [], ◌∷◌, ◌++◌, length, get_or, take, drop, map, Option, Some, None, find, refl, sym, ap, subst, ◌∙◌, inl, inr, arith, append_assoc, length-append}
 use Rattle.std.specs.List.{list_all, range_with_len}
 use Rattle.std.specs.Bool.{Decides}
-use Rattle.std.proofs.lemmas.Bool.{and_parts, cases_Bool, cases_eq, cases_lt, lt-ltb, le-ltb}
-use Rattle.std.proofs.lemmas.List.{ext_get_or, get_or_append_left, get_or-append_right, get_or-take, length-take-le, drop_more, get_or_default, length-map, drop_all}
+use Rattle.std.proofs.lemmas.Bool.{and_parts, cases_eq, cases_lt, lt-ltb, le-ltb}
+use Rattle.std.proofs.lemmas.List.{ext_get_or, get_or_append_left, get_or-append_right, get_or-take, length-take-le, drop_more, drop_all}
 use Rattle.std.proofs.lemmas.List.FromFn.{get_or-map-range_with_len, length-map-range_with_len, take-map-range_with_len, map-range_with_len_more}
 use Rattle.exact_forms.specs.Triangles.{triangle, entry_in}
 use Rattle.matrix_text.specs.Square.{entry_at, lower_from, lower_of, full, mirrors, first_unlike}
@@ -100,8 +100,8 @@ lower-entry none s (row ∷ rows) (suc i) j p lt long le at =
     let rest : p - (s + 1) + triangle (s + 1) ≡ triangle (s + 1 + i) = omega (arith, there, grows, next) in
     let moved : p + j - (s + 1) ≡ p - (s + 1) + j = omega arith in
     get_or-append_right (take (s + 1) row) (lower_from (s + 1 + 1) rows) (s + 1) (p + j) none front (omega arith)
-        ∙ ap (λ (q : ℕ). get_or (lower_from (s + 1 + 1) rows) q none) moved
-        ∙ lower-entry none (s + 1) rows i j (p - (s + 1)) (omega arith) (λ k below. let h = long (suc k) (omega arith) in omega (arith, h)) (omega arith) rest
+    ∙ ap (λ (q : ℕ). get_or (lower_from (s + 1 + 1) rows) q none) moved
+    ∙ lower-entry none (s + 1) rows i j (p - (s + 1)) (omega arith) (λ k below. let h = long (suc k) (omega arith) in omega (arith, h)) (omega arith) rest
 
 lower-length : {A : Type 0} (s : ℕ) (rows : List (List A)) → ((k : ℕ) → k < length rows → s + length rows ≤ length (get_or rows k [])) → length (lower_from (s + 1) rows) + triangle s ≡ triangle (s + length rows)
 unfolding lower_from
@@ -137,16 +137,17 @@ unfolding IsMirrored entry_at
 full-lower none n rows square mirror =
     let whole = square-full none n (lower_of rows) in
     ext_get_or [] (full none n (lower_of rows)) rows (whole.len ∙ sym square.len) (λ i low.
-      let lt : i < n = (let l = whole.len in omega (arith, l)) in
-      ext_get_or none (get_or (full none n (lower_of rows)) i []) (get_or rows i []) (whole.each i lt ∙ sym (square.each i lt)) (λ j lower.
-        let left : j < n = (let l = whole.each i lt in omega (arith, l)) in
-        entries i j lt left))
+    let lt : i < n = (let l = whole.len in omega (arith, l)) in
+    ext_get_or none (get_or (full none n (lower_of rows)) i []) (get_or rows i []) (whole.each i lt ∙ sym (square.each i lt)) (λ j lower.
+    let left : j < n = (let l = whole.each i lt in omega (arith, l)) in
+    entries i j lt left))
   where
     here : (i j : ℕ) → i < n → j < n → entry_in none (lower_of rows) i j ≡ entry_at none rows i j
     here i j lt left = elim (cases_lt i j) [
       | inl above ↦ entry_in-mirror none (lower_of rows) i j ∙ entry_in-lower none n rows j i square left (omega arith) ∙ mirror j i left above
       | inr le ↦ entry_in-lower none n rows i j square lt le
     ]
+
     entries : (i j : ℕ) → i < n → j < n → get_or (get_or (full none n (lower_of rows)) i []) j none ≡ get_or (get_or rows i []) j none
     entries i j lt left = entry_at-full none n (lower_of rows) i j lt left ∙ here i j lt left
 
@@ -170,7 +171,7 @@ row-part : {A : Type 0} (none : A) (lower : List A) (s n : ℕ) → s < n → ta
 unfolding entry_in
 row-part none lower s n lt =
     take-map-range_with_len (λ j. if nat_lt s j then get_or lower (triangle j + s) none else get_or lower (triangle s + j) none) 0 n (s + 1) (omega arith)
-        ∙ map-range (λ j. if nat_lt s j then get_or lower (triangle j + s) none else get_or lower (triangle s + j) none) (λ j. get_or lower (triangle s + j) none) 0 (s + 1) (λ j low high. rw (le-ltb s j (omega arith)) refl)
+    ∙ map-range (λ j. if nat_lt s j then get_or lower (triangle j + s) none else get_or lower (triangle s + j) none) (λ j. get_or lower (triangle s + j) none) 0 (s + 1) (λ j low high. rw (le-ltb s j (omega arith)) refl)
 
 lower-full_from : {A : Type 0} (none : A) (lower : List A) (n s m : ℕ) → s + m ≡ n → length lower ≡ triangle n → lower_from (s + 1) (map (λ i. map (λ j. entry_in none lower i j) (range_with_len 0 n)) (range_with_len s m)) ≡ drop (triangle s) lower
 unfolding lower_from
@@ -203,4 +204,4 @@ pub mirrored-alike : {A : Type 0} (same : A → A → Bool) (none : A) (n : ℕ)
 unfolding first_unlike mirrors IsMirrored
 mirrored-alike same none n rows decides len mirror =
     none-find (λ i. not (list_all (λ j. same (entry_at none rows i j) (entry_at none rows j i)) (range_with_len 0 i))) 0 (length rows) (λ i low lt.
-      ap not (range-all (λ j. same (entry_at none rows i j) (entry_at none rows j i)) 0 i (λ j low left. (decides (entry_at none rows i j) (entry_at none rows j i)).1 (mirror i j (omega (arith, len)) (omega arith)))))
+    ap not (range-all (λ j. same (entry_at none rows i j) (entry_at none rows j i)) 0 i (λ j low left. (decides (entry_at none rows i j) (entry_at none rows j i)).1 (mirror i j (omega (arith, len)) (omega arith)))))

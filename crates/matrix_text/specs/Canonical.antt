@@ -1,5 +1,5 @@
 -- The one plain spelling of a table of whole numbers.
-use Rattle.std.specs.Prelude.{◌≡◌, ℕ, suc, ◌<◌, ◌^◌, ◌+◌, List, [], ◌∷◌, ◌++◌, length, map, Ok, ℤ, pos, negsuc, codes}
+use Rattle.std.specs.Prelude.{◌≡◌, ℕ, ◌<◌, ◌^◌, ◌+◌, List, [], ◌∷◌, ◌++◌, length, map, Ok, ℤ, nat_abs, codes}
 use Rattle.std.specs.List.{AllByRecursion, join_with_byte}
 use Rattle.std.specs.Fmt.{decimal}
 use Rattle.matrix_text.specs.Lines.{content_lines, end_line}
@@ -14,14 +14,10 @@ header_line n = join_with_byte 32 (codes "cpmatrix" ∷ codes "1" ∷ decimal n 
 unfoldable pub table_text : List (List ℤ) → List ℕ
 table_text rows = (header_line (length rows) ++ 10 ∷ []) ++ rows_text rows
 
-abbrev pub magnitude_of : ℤ → ℕ
-magnitude_of (pos n) = n
-magnitude_of (negsuc n) = suc n
-
 -- a row of n numbers, none over 9223372036854775807
 pub record AreRows (n : ℕ) (row : List ℤ) : Type 0 where
   pub len : length row ≡ n
-  pub small : AllByRecursion (λ z. magnitude_of z < 2 ^ 63) row
+  pub small : AllByRecursion (λ z. nat_abs z < 2 ^ 63) row
 
 -- one to six rows, each as long as there are rows
 pub record IsTable (rows : List (List ℤ)) : Type 0 where

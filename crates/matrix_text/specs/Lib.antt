@@ -3,8 +3,8 @@ pub mod Content
 pub mod Numbers
 pub mod Matrix
 pub mod Rows
-pub mod Symmetry
 pub mod Spelling
 pub mod Canonical
 pub mod Numerators
 pub mod Square
+pub mod Whole

@@ -5,7 +5,7 @@
 --     full none n lower          the n rows of the symmetric matrix with this lower triangle
 --     mirrors same none rows i   row i is as column i, left of the diagonal
 --     first_unlike same none rows   the first row that is not
-use Rattle.std.specs.Prelude.{◌≡◌, ℕ, ◌+◌, Bool, not, List, [], ◌∷◌, ◌++◌, length, take, map, Option, slice_index_or, find}
+use Rattle.std.specs.Prelude.{ℕ, ◌+◌, Bool, not, List, [], ◌∷◌, ◌++◌, length, take, map, Option, slice_index_or, find}
 use Rattle.std.specs.List.{list_all, range_with_len}
 use Rattle.exact_forms.specs.Triangles.{entry_in}
 

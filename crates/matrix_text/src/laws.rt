@@ -1,9 +1,10 @@
 //! Laws of the texts.
 
-ghost use Rattle.std.specs.Prelude.{ℤ, List};
-ghost use Rattle.matrix_text.specs.Canonical.{IsTable, IsReadBack};
+ghost use Rattle.std.specs.Prelude.{◌≡◌, List, ℕ};
+ghost use Rattle.symmetric_matrix.specs.Symmetric.{Symmetric};
+ghost use Rattle.matrix_text.specs.Whole.{WholeText};
 
-/// The text of a table is read as that table.
-pub fn written_is_read()
-    ensures { (rows : List (List ℤ)) → IsTable rows → IsReadBack rows }
+/// Bytes are the plain text of at most one matrix.
+pub fn plain_text_is_of_one_matrix()
+    ensures { (bytes : List ℕ) → (q r : Symmetric) → WholeText bytes q → WholeText bytes r → q ≡ r }
 {}

@@ -1,8 +1,8 @@
 //! Rows of whole numbers, written at the end of a `Vec`.
 
-ghost use Rattle.std.specs.Prelude.{◌≡◌, ◌<◌, ◌≤◌, ◌^◌, ◌++◌, ◌∷◌, [], ℤ, List, OnOk, OnErr, length, take, map};
+ghost use Rattle.std.specs.Prelude.{◌≡◌, ◌++◌, OnOk};
 ghost use Rattle.std.specs.Fmt.{decimal, signed_decimal};
-ghost use Rattle.matrix_text.specs.Spelling.{row_text, rows_text, separated, Extends};
+ghost use Rattle.matrix_text.specs.Spelling.{row_text, separated, Extends};
 
 use std::alloc::AllocError;
 
@@ -56,29 +56,5 @@ pub fn push_row(into: &mut Vec<u8>, row: &[i64]) -> Result<(), AllocError>
         push_column(into, column, *n)?;
     }
     into.push(b'\n')?;
-    Ok(())
-}
-
-/// Appends the lines of rows. After an error the text is as before.
-pub fn push_rows(into: &mut Vec<u8>, rows: &[Vec<i64>]) -> Result<(), AllocError>
-    ensures ok { OnOk result (into.new.items ≡ into.old.items ++ rows_text (map (λ row. row.items) rows.now)) }
-    ensures err { OnErr result (into.new.items ≡ into.old.items) }
-{
-    let before = into.len();
-    let written = append_rows(into, rows);
-    if written.is_err() {
-        into.truncate(before);
-    }
-    written
-}
-
-#[tactic(auto, using(crate::proofs::Joins::rows_steps))]
-fn append_rows(into: &mut Vec<u8>, rows: &[Vec<i64>]) -> Result<(), AllocError>
-    ensures ok { OnOk result (into.new.items ≡ into.old.items ++ rows_text (map (λ row. row.items) rows.now)) }
-    ensures kept { Extends into.old.items into.new.items }
-{
-    for row in rows {
-        push_row(into, row)?;
-    }
     Ok(())
 }

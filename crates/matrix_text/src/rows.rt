@@ -7,12 +7,13 @@ ghost use Rattle.matrix_text.specs.Matrix.{Gives, row_of, rows_of, in_line, is_a
 ghost use Rattle.matrix_text.specs.Rows.{text_rows};
 ghost use Rattle.matrix_text.specs.declared.fault.TextKind.TheVariants.{ExtraLine};
 
+use crate::content::{ContentLines, TextLine};
 use crate::entry::{Entry, entry_in};
 use crate::fault::{TextFault, TextKind};
-use crate::content::{ContentLines, TextLine};
 use crate::table::{EMPTY, MOST, Row, ZERO};
 use crate::words::Words;
 
+/// Whether each byte of the line is below 128.
 pub fn is_ascii_line(line: &[u8]) -> bool
     ensures { result ≡ is_ascii line.now }
 {
@@ -39,6 +40,7 @@ pub fn row_in(line: &[u8], size: usize) -> Result<[Entry; MOST], TextKind>
     }
 }
 
+/// A fault of a line.
 pub fn fault(kind: TextKind, line: u32) -> TextFault
     ensures { result ≡ record { kind = kind; line = line } }
 {

@@ -6,11 +6,11 @@ ghost use Rattle.matrix_text.specs.Content.{line_of};
 ghost use Rattle.matrix_text.specs.Matrix.{Gives, header_of, in_line, table_of};
 ghost use Rattle.matrix_text.specs.Rows.{table_rows};
 
+use crate::content::{ContentLines, TextLine};
 use crate::fault::{TextFault, TextKind};
 use crate::header::header_size;
 use crate::rows::{fault, is_ascii_line, rows_in};
 use crate::table::Table;
-use crate::content::{ContentLines, TextLine};
 
 #[tactic(auto, unfolding(crate::specs::Matrix::in_line))]
 fn size_at(line: TextLine) -> Result<u8, TextFault>

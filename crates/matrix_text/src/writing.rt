@@ -5,10 +5,9 @@ ghost use Rattle.matrix_text.specs.Spelling.{rows_text};
 ghost use Rattle.matrix_text.specs.Canonical.{table_text};
 ghost use Rattle.matrix_text.specs.Numerators.{numbers, row_numbers};
 
-use crate::table::{MOST, Row};
-use crate::table::Table;
-use std::alloc::AllocError;
 use crate::plain::{push_digits, push_row};
+use crate::table::{MOST, Row, Table};
+use std::alloc::AllocError;
 
 /// The numerators of a row.
 fn numbers_in(row: &Row, size: usize) -> [i64; MOST]

@@ -1,4 +1,4 @@
-use Rattle.std.proofs.Common.{[], ◌++◌, ◌∙◌, ap}
+use Rattle.std.proofs.Common.{◌++◌, ◌∙◌, ap}
 use Rattle.matrix_text.specs.Spelling.{row_text}
 use Rattle.matrix_text.specs.declared.table.Row.{Row}
 use Rattle.matrix_text.specs.Numerators.{row_numbers}
