@@ -15,3 +15,6 @@ pub use operation::{IntKind, IntOp, int_add, int_mul};
 pub use start::{start_vector, start_vectors, start_weights_are_coordinates};
 pub use vector::IntVector;
 pub use vector_list::VectorList;
+
+#[cfg(test)]
+mod tests;
