@@ -1,0 +1,10 @@
+pub mod Lines
+pub mod Content
+pub mod Numbers
+pub mod Matrix
+pub mod Rows
+pub mod Spelling
+pub mod Canonical
+pub mod Numerators
+pub mod Square
+pub mod Whole

@@ -1,0 +1,99 @@
+//! The rows of a text.
+
+ghost use Rattle.std.specs.Prelude.{◌≡◌, ◌≤◌, length, take, IfOk, List, Err};
+ghost use Rattle.matrix_text.specs.Lines.{words};
+ghost use Rattle.matrix_text.specs.Content.{line_of};
+ghost use Rattle.matrix_text.specs.Matrix.{Gives, row_of, rows_of, in_line, is_ascii, TextRow};
+ghost use Rattle.matrix_text.specs.Rows.{text_rows};
+ghost use Rattle.matrix_text.specs.declared.fault.TextKind.TheVariants.{ExtraLine};
+
+use crate::content::{ContentLines, TextLine};
+use crate::entry::{Entry, entry_in};
+use crate::fault::{TextFault, TextKind};
+use crate::table::{EMPTY, MOST, Row, ZERO};
+use crate::words::Words;
+
+/// Whether each byte of the line is below 128.
+pub fn is_ascii_line(line: &[u8]) -> bool
+    ensures { result ≡ is_ascii line.now }
+{
+    line.iter().all(|b| *b < 128)
+}
+
+/// The entries of a row.
+#[tactic(auto, using(crate::proofs::RowLemmas::row_steps))]
+pub fn row_in(line: &[u8], size: usize) -> Result<[Entry; MOST], TextKind>
+    requires { size ≤ MOST }
+    ensures { Gives (λ row. take size row) result (row_of size (words line.now)) }
+{
+    let mut words = Words::of(line);
+    let mut row = [ZERO; MOST];
+    for column in 0..size {
+        let Some(word) = words.next() else {
+            return Err(TextKind::ShortRow);
+        };
+        row[column] = entry_in(word)?;
+    }
+    match words.next() {
+        None => Ok(row),
+        Some(_) => Err(TextKind::LongRow),
+    }
+}
+
+/// A fault of a line.
+pub fn fault(kind: TextKind, line: u32) -> TextFault
+    ensures { result ≡ record { kind = kind; line = line } }
+{
+    TextFault { kind, line }
+}
+
+/// The row that a line writes.
+#[tactic(auto, unfolding(crate::specs::Matrix::in_line))]
+fn row_at(line: TextLine, size: usize) -> Result<Row, TextFault>
+    requires { size ≤ MOST }
+    ensures entries { Gives (λ row. take size row.entries) result (in_line (row_of size) (line_of line.entry)) }
+    ensures line { IfOk result (λ row. row.line ≡ line.entry.number) }
+{
+    if !is_ascii_line(line.bytes) {
+        return Err(fault(TextKind::NotAscii, line.number));
+    }
+    match row_in(line.bytes, size) {
+        Ok(entries) => Ok(Row {
+            line: line.number,
+            entries,
+        }),
+        Err(kind) => Err(fault(kind, line.number)),
+    }
+}
+
+/// The fault of a line that follows the last row.
+#[tactic(auto, unfolding(crate::specs::Matrix::in_line))]
+fn extra_line(line: TextLine) -> TextFault
+    ensures { in_line {A = List TextRow} (λ words. Err ExtraLine) (line_of line.entry) ≡ Err result }
+{
+    if is_ascii_line(line.bytes) {
+        fault(TextKind::ExtraLine, line.number)
+    } else {
+        fault(TextKind::NotAscii, line.number)
+    }
+}
+
+/// The rows that the lines write, and no further line.
+#[tactic(auto, using(crate::proofs::TextRows::rows_steps))]
+pub fn rows_in(lines: ContentLines, size: usize) -> Result<[Row; MOST], TextFault>
+    requires { size ≤ MOST }
+    ensures { Gives (λ rows. text_rows size rows) result (rows_of size lines.entry.end size lines.entry.lines) }
+{
+    let mut lines = lines;
+    let mut rows = [EMPTY; MOST];
+    for index in 0..size {
+        match lines.next() {
+            Ok(line) => rows[index] = row_at(line, size)?,
+            Err(end) => return Err(fault(TextKind::MissingRow, end)),
+        }
+    }
+    match lines.next() {
+        Ok(line) => Err(extra_line(line)),
+        Err(_) => Ok(rows),
+    }
+}
