@@ -1,0 +1,10 @@
+pub mod Pairs
+pub mod Bounded
+pub mod Covers
+pub mod Additions
+pub mod Tree
+pub mod Generators
+pub mod Minimum
+pub mod Unique
+pub mod AnswerUnique
+pub mod Orders

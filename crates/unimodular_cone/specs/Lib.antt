@@ -1,0 +1,4 @@
+pub mod Paths
+pub mod Cones
+pub mod Tree
+pub mod Answer
