@@ -2,3 +2,4 @@ pub mod Paths
 pub mod Cones
 pub mod Tree
 pub mod Answer
+pub mod PackedDigits

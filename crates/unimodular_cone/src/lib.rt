@@ -3,7 +3,9 @@
 #![tactic(auto)]
 
 mod mode;
+mod path;
 mod refusal;
 
 pub use mode::Mode;
+pub use path::Path;
 pub use refusal::{WideEntry};
