@@ -1,5 +1,5 @@
 -- Laws of finite sums in a commutative ring.
-use Rattle.std.specs.Prelude.{◌≡◌, ◌≢◌, ℕ, zero, suc, ◌<◌, pos, ◌⊎◌, [], ◌∷◌}
+use Rattle.std.specs.Prelude.{◌≡◌, ◌≢◌, ℕ, zero, suc, ◌+◌, ◌<◌, pos, negsuc, ◌⊎◌, [], ◌∷◌}
 use Rattle.std.proofs.Common.{arith, sym, ◌∙◌, ap, ap₂, refl, inl, inr}
 use Rattle.commutative_ring.specs.SumOf.{sum_of}
 use Rattle.commutative_ring.proofs.Ring.{CommutativeRing, ring_in, num, ◌⊕◌, ◌⊗◌, v0, v1, v2, v3}
@@ -72,3 +72,37 @@ module _ {A : Type 0} (R : CommutativeRing A) where
           ∙ ap₂ R.add (step b) (h n (omega arith) (omega arith))
           ∙ ring_in R (total n g ∷ f i ∷ g n ∷ []) ((v0 ⊕ v1) ⊕ v2) (v0 ⊕ v2 ⊕ v1) refl
           ∙ sym (ap (λ w. R.add w (f i)) (total-suc n g))
+
+  -- a sum of one term
+  pub total_one : (n : ℕ) (f : ℕ → A) (i : ℕ) → i < n → ((k : ℕ) → k < n → k ≢ i → f k ≡ R.of_int (pos 0)) → total n f ≡ f i
+  total_one n f i l h =
+      ring_in R (total n f ∷ []) v0 (v0 ⊕ num (pos 0)) refl
+      ∙ total_but_one n f (λ k. R.of_int (pos 0)) i l h
+      ∙ ap (λ w. R.add w (f i)) (total_none n (λ k. R.of_int (pos 0)) (λ k m. refl))
+      ∙ ring_in R (f i ∷ []) (num (pos 0) ⊕ v0) v0 refl
+
+  -- the step of a loop
+  pub total_more : (n : ℕ) (f : ℕ → A) → total (n + 1) f ≡ R.add (total n f) (f n)
+  total_more n f = let e : n + 1 ≡ suc n = omega arith in ap (λ (k : ℕ). total k f) e ∙ total-suc n f
+
+  pub total-mul : (c : A) (n : ℕ) (f : ℕ → A) → R.mul (total n f) c ≡ total n (λ k. R.mul (f k) c)
+  total-mul c n f = R.mul_comm (total n f) c ∙ mul-total c n f ∙ total_same n _ _ (λ k l. R.mul_comm c (f k))
+
+  pub total-neg : (n : ℕ) (f : ℕ → A) → total n (λ k. R.neg (f k)) ≡ R.neg (total n f)
+  total-neg n f = total_same n _ _ (λ k l. R.neg_is_mul (f k)) ∙ sym (mul-total (R.of_int (negsuc 0)) n f) ∙ sym (R.neg_is_mul (total n f))
+
+  pub total_product : (m n : ℕ) (f g : ℕ → A) → R.mul (total m f) (total n g) ≡ total m (λ i. total n (λ j. R.mul (f i) (g j)))
+  total_product m n f g = total-mul (total n g) m f ∙ total_same m _ _ (λ i l. mul-total (f i) n g)
+
+  -- ---- double sums
+  pub totals_same : (m n : ℕ) (f g : ℕ → ℕ → A) → ((i j : ℕ) → i < m → j < n → f i j ≡ g i j) → total m (λ i. total n (λ j. f i j)) ≡ total m (λ i. total n (λ j. g i j))
+  totals_same m n f g h = total_same m _ _ (λ i li. total_same n _ _ (λ j lj. h i j li lj))
+
+  pub totals-add : (m n : ℕ) (f g : ℕ → ℕ → A)
+      → total m (λ i. total n (λ j. R.add (f i j) (g i j))) ≡ R.add (total m (λ i. total n (λ j. f i j))) (total m (λ i. total n (λ j. g i j)))
+  totals-add m n f g =
+      total_same m _ _ (λ i l. total-add n (λ j. f i j) (λ j. g i j))
+      ∙ total-add m (λ i. total n (λ j. f i j)) (λ i. total n (λ j. g i j))
+
+  pub mul-totals : (c : A) (m n : ℕ) (f : ℕ → ℕ → A) → R.mul c (total m (λ i. total n (λ j. f i j))) ≡ total m (λ i. total n (λ j. R.mul c (f i j)))
+  mul-totals c m n f = mul-total c m _ ∙ total_same m _ _ (λ i l. mul-total c n (λ j. f i j))

@@ -1,26 +1,74 @@
 -- Laws of quadratic forms.
-use Rattle.std.specs.Prelude.{◌≡◌, ℕ, ◌<◌, ℤ, pos, ◌+ℤ◌, ◌*ℤ◌}
-use Rattle.std.proofs.Common.{arith, sym, ◌∙◌, ap, ap₂}
+use Rattle.std.specs.Prelude.{◌≡◌, ℕ, suc, ◌<◌, ℤ, pos, ◌+ℤ◌, ◌*ℤ◌}
+use Rattle.std.proofs.Common.{arith, sym, ◌∙◌, ap, ap₂, refl}
 use lib.IntN.{*ℤ_comm}
 use Rattle.exact_forms.specs.Sums.{sum_to}
-use Rattle.exact_forms.specs.Forms.{bilinear, form, combination, IsSymmetric}
+use Rattle.exact_forms.specs.Forms.{bilinear, form, inner, combination, IsSymmetric}
+use Rattle.commutative_ring.proofs.Laws.{add_mul_ℤ, mul_assoc_ℤ}
 use Rattle.commutative_ring.proofs.Expand.{expand, linear}
-use Rattle.exact_forms.proofs.Sums.{sum_to_same, sum_to-add, mul-sum_to, sum_to-mul, sum_to_swap}
+use Rattle.exact_forms.proofs.Sums.{sum_to-zero, sum_to-suc, sum_to_same, mul-sum_to, sum_to-mul, sum_to_swap, sums_same, sums-add, mul-sums}
 
--- the terms of a double sum decide
-pub sums_same : (m n : ℕ) (f g : ℕ → ℕ → ℤ) → ((i j : ℕ) → i < m → j < n → f i j ≡ g i j) → sum_to m (λ i. sum_to n (λ j. f i j)) ≡ sum_to m (λ i. sum_to n (λ j. g i j))
-sums_same m n f g h = sum_to_same m _ _ (λ i li. sum_to_same n _ _ (λ j lj. h i j li lj))
+-- ---- the places below n decide
+pub bilinear_same : (n : ℕ) (q s : ℕ → ℕ → ℤ) (x y u w : ℕ → ℤ) → ((i j : ℕ) → i < n → j < n → q i j ≡ s i j) → ((i : ℕ) → i < n → x i ≡ u i) → ((i : ℕ) → i < n → y i ≡ w i)
+    → bilinear n q x y ≡ bilinear n s u w
+unfolding bilinear
+bilinear_same n q s x y u w hq hx hy =
+    sums_same n n _ _ (λ i j li lj. ap₂ (λ (a : ℤ) (b : ℤ). a *ℤ b) (hq i j li lj) (ap₂ (λ (a : ℤ) (b : ℤ). a *ℤ b) (hx i li) (hy j lj)))
 
-pub sums-add : (m n : ℕ) (f g : ℕ → ℕ → ℤ) → sum_to m (λ i. sum_to n (λ j. f i j +ℤ g i j)) ≡ sum_to m (λ i. sum_to n (λ j. f i j)) +ℤ sum_to m (λ i. sum_to n (λ j. g i j))
-sums-add m n f g =
-    sum_to_same m _ _ (λ i l. sum_to-add n (λ j. f i j) (λ j. g i j))
-    ∙ sum_to-add m (λ i. sum_to n (λ j. f i j)) (λ i. sum_to n (λ j. g i j))
+pub form_same : (n : ℕ) (q s : ℕ → ℕ → ℤ) (x y : ℕ → ℤ) → ((i j : ℕ) → i < n → j < n → q i j ≡ s i j) → ((i : ℕ) → i < n → x i ≡ y i) → form n q x ≡ form n s y
+form_same n q s x y hq hx = bilinear_same n q s x x y y hq hx hx
 
-pub mul-sums : (c : ℤ) (m n : ℕ) (f : ℕ → ℕ → ℤ) → c *ℤ sum_to m (λ i. sum_to n (λ j. f i j)) ≡ sum_to m (λ i. sum_to n (λ j. c *ℤ f i j))
-mul-sums c m n f = mul-sum_to c m _ ∙ sum_to_same m _ _ (λ i l. mul-sum_to c n (λ j. f i j))
+pub inner_same : (n : ℕ) (q s t u : ℕ → ℕ → ℤ) → ((i j : ℕ) → i < n → j < n → q i j ≡ t i j) → ((i j : ℕ) → i < n → j < n → s i j ≡ u i j) → inner n q s ≡ inner n t u
+unfolding inner
+inner_same n q s t u hq hs = sums_same n n _ _ (λ i j li lj. ap₂ (λ (a : ℤ) (b : ℤ). a *ℤ b) (hq i j li lj) (hs i j li lj))
+
+pub combination_same : (m : ℕ) (a b : ℕ → ℤ) (v w : ℕ → ℕ → ℤ) (p : ℕ) → ((k : ℕ) → k < m → a k ≡ b k) → ((k : ℕ) → k < m → v k p ≡ w k p) → combination m a v p ≡ combination m b w p
+unfolding combination
+combination_same m a b v w p ha hv = sum_to_same m _ _ (λ k l. ap₂ (λ (x : ℤ) (y : ℤ). x *ℤ y) (ha k l) (hv k l))
+
+-- ---- what they are
+-- Q[x] = ⟨Q, xxᵗ⟩
+pub form_is_inner : (n : ℕ) (q : ℕ → ℕ → ℤ) (x : ℕ → ℤ) → form n q x ≡ inner n q (λ i j. x i *ℤ x j)
+unfolding bilinear inner
+form_is_inner n q x = refl
+
+pub inner_is : (n : ℕ) (q s : ℕ → ℕ → ℤ) → inner n q s ≡ sum_to n (λ i. sum_to n (λ j. q i j *ℤ s i j))
+unfolding inner
+inner_is n q s = refl
+
+pub bilinear_is : (n : ℕ) (q : ℕ → ℕ → ℤ) (x y : ℕ → ℤ) → bilinear n q x y ≡ sum_to n (λ i. sum_to n (λ j. q i j *ℤ (x i *ℤ y j)))
+unfolding bilinear
+bilinear_is n q x y = refl
+
+pub combination-zero : (a : ℕ → ℤ) (v : ℕ → ℕ → ℤ) (p : ℕ) → combination 0 a v p ≡ pos 0
+unfolding combination
+combination-zero a v p = sum_to-zero (λ k. a k *ℤ v k p)
+
+pub combination-suc : (m : ℕ) (a : ℕ → ℤ) (v : ℕ → ℕ → ℤ) (p : ℕ) → combination (suc m) a v p ≡ combination m a v p +ℤ a m *ℤ v m p
+unfolding combination
+combination-suc m a v p = sum_to-suc m (λ k. a k *ℤ v k p)
+
+pub inner_symmetric : (n : ℕ) (q s : ℕ → ℕ → ℤ) → inner n q s ≡ inner n s q
+unfolding inner
+inner_symmetric n q s = sums_same n n _ _ (λ i j li lj. *ℤ_comm (q i j) (s i j))
+
+pub inner-add_left : (n : ℕ) (q r s : ℕ → ℕ → ℤ) → inner n (λ i j. q i j +ℤ r i j) s ≡ inner n q s +ℤ inner n r s
+unfolding inner
+inner-add_left n q r s = sums_same n n _ _ (λ i j li lj. add_mul_ℤ (q i j) (r i j) (s i j)) ∙ sums-add n n (λ i j. q i j *ℤ s i j) (λ i j. r i j *ℤ s i j)
+
+pub inner-mul_left : (n : ℕ) (c : ℤ) (q s : ℕ → ℕ → ℤ) → inner n (λ i j. c *ℤ q i j) s ≡ c *ℤ inner n q s
+unfolding inner
+inner-mul_left n c q s = sums_same n n _ _ (λ i j li lj. mul_assoc_ℤ c (q i j) (s i j)) ∙ sym (mul-sums c n n (λ i j. q i j *ℤ s i j))
+
+pub form-add : (n : ℕ) (q r : ℕ → ℕ → ℤ) (x : ℕ → ℤ) → form n (λ i j. q i j +ℤ r i j) x ≡ form n q x +ℤ form n r x
+form-add n q r x = form_is_inner n (λ i j. q i j +ℤ r i j) x ∙ inner-add_left n q r (λ i j. x i *ℤ x j) ∙ sym (ap₂ (λ (a : ℤ) (b : ℤ). a +ℤ b) (form_is_inner n q x) (form_is_inner n r x))
+
+pub form-mul : (n : ℕ) (c : ℤ) (q : ℕ → ℕ → ℤ) (x : ℕ → ℤ) → form n (λ i j. c *ℤ q i j) x ≡ c *ℤ form n q x
+form-mul n c q x = form_is_inner n (λ i j. c *ℤ q i j) x ∙ inner-mul_left n c q (λ i j. x i *ℤ x j) ∙ sym (ap (λ (a : ℤ). c *ℤ a) (form_is_inner n q x))
 
 -- ---- linear in each argument
 pub bilinear-add_left : (n : ℕ) (q : ℕ → ℕ → ℤ) (x y z : ℕ → ℤ) → bilinear n q (λ i. x i +ℤ y i) z ≡ bilinear n q x z +ℤ bilinear n q y z
+unfolding bilinear
 bilinear-add_left n q x y z =
     sums_same n n _ _ (λ i j li lj. spread (q i j) (x i) (y i) (z j))
     ∙ sums-add n n (λ i j. q i j *ℤ (x i *ℤ z j)) (λ i j. q i j *ℤ (y i *ℤ z j))
@@ -29,6 +77,7 @@ bilinear-add_left n q x y z =
     spread a b c d = simp expand
 
 pub bilinear-mul_left : (n : ℕ) (q : ℕ → ℕ → ℤ) (c : ℤ) (x z : ℕ → ℤ) → bilinear n q (λ i. c *ℤ x i) z ≡ c *ℤ bilinear n q x z
+unfolding bilinear
 bilinear-mul_left n q c x z =
     sums_same n n _ _ (λ i j li lj. move (q i j) (x i) (z j))
     ∙ sym (mul-sums c n n (λ i j. q i j *ℤ (x i *ℤ z j)))
@@ -38,11 +87,13 @@ bilinear-mul_left n q c x z =
 
 -- the mirror
 pub bilinear_flip : (n : ℕ) (q : ℕ → ℕ → ℤ) (x y : ℕ → ℤ) → bilinear n q x y ≡ bilinear n (λ i j. q j i) y x
+unfolding bilinear
 bilinear_flip n q x y =
     sum_to_swap n n (λ i j. q i j *ℤ (x i *ℤ y j))
     ∙ sums_same n n _ _ (λ i j li lj. ap (λ (w : ℤ). q j i *ℤ w) (*ℤ_comm (x j) (y i)))
 
 pub bilinear_symmetric : (n : ℕ) (q : ℕ → ℕ → ℤ) (x y : ℕ → ℤ) → IsSymmetric n q → bilinear n q x y ≡ bilinear n q y x
+unfolding bilinear
 bilinear_symmetric n q x y s =
     bilinear_flip n q x y
     ∙ sums_same n n _ _ (λ i j li lj. ap (λ (w : ℤ). w *ℤ (y i *ℤ x j)) (s j i lj li))
@@ -85,6 +136,7 @@ form_of_sum n q a b u w s =
 -- ---- of combinations
 pub bilinear-combination_left : (n m : ℕ) (q : ℕ → ℕ → ℤ) (a : ℕ → ℤ) (v : ℕ → ℕ → ℤ) (y : ℕ → ℤ)
     → bilinear n q (combination m a v) y ≡ sum_to m (λ k. a k *ℤ bilinear n q (v k) y)
+unfolding bilinear combination
 bilinear-combination_left n m q a v y =
     -- q_ij · ((Σ_k a_k v_ki) · y_j) = Σ_k a_k · (q_ij · (v_ki · y_j))
     sums_same n n _ _ (λ i j li lj.
@@ -109,6 +161,7 @@ bilinear-combination_right n m q x b v =
 -- Gram: the form at a combination is the form of the Gram matrix at its coefficients
 pub form-combination : (n m : ℕ) (q : ℕ → ℕ → ℤ) (a : ℕ → ℤ) (v : ℕ → ℕ → ℤ)
     → form n q (combination m a v) ≡ form m (λ k l. bilinear n q (v k) (v l)) a
+unfolding bilinear
 form-combination n m q a v =
     bilinear-combination_left n m q a v (combination m a v)
     ∙ sum_to_same m _ _ (λ k lk.

@@ -1,4 +1,5 @@
 pub mod Sums
+pub mod RationalSums
 pub mod Forms
 pub mod Order
 pub mod Slacks

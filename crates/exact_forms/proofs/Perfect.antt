@@ -2,16 +2,14 @@
 use Rattle.std.specs.Prelude.{◌≡◌, ℕ, zero, suc, ◌<◌, ℤ, pos, ◌+ℤ◌, ◌*ℤ◌, [], ◌∷◌}
 use Rattle.std.proofs.Common.{arith, sym, ◌∙◌, ap, ap₂, refl}
 use Rattle.commutative_ring.proofs.Ring.{ring_in, num, ◌⊗◌, v0, v1, v2}
-use Rattle.commutative_ring.proofs.SumOf.{total-zero, total-suc, total_same, total_none, mul-total, total_swap}
-use Rattle.exact_forms.specs.Sums.{sum_to}
-use Rattle.exact_forms.specs.Forms.{form, IsSymmetric}
-use Rattle.exact_forms.proofs.Sums.{sum_to-zero, sum_to-suc, sum_to_one, sum_to_none}
+use Rattle.exact_forms.proofs.RationalSums.{sum_ℚ_same, sum_ℚ_none, mul-sum_ℚ, sum_ℚ_swap, whole-sum, whole-sums}
+use Rattle.exact_forms.specs.Sums.{sum_to, sum_ℚ}
+use Rattle.exact_forms.specs.Forms.{bilinear, form, IsSymmetric}
+use Rattle.exact_forms.proofs.Sums.{sum_to_one, sum_to_none, sums_same, sums-add}
 use Rattle.exact_forms.specs.Rational.{Rational, ratio, whole, ◌+ℚ◌, ◌*ℚ◌}
-use Rattle.exact_forms.specs.Tableau.{sum_ℚ}
 use Rattle.exact_forms.proofs.Rational.{rational_ring, whole-add, whole-mul, cancel_pos, den_positive, ratio_value}
 use Rattle.exact_forms.specs.Slacks.{replaced}
 use Rattle.exact_forms.proofs.Slacks.{replaced_here, replaced_other}
-use Rattle.exact_forms.proofs.Forms.{sums_same, sums-add}
 use Rattle.commutative_ring.proofs.Laws.{mul_add_ℤ}
 use Rattle.commutative_ring.proofs.Expand.{expand, linear}
 
@@ -23,33 +21,25 @@ IsPerfect n m v = (z : ℕ → ℕ → ℤ) → IsSymmetric n z → ((k : ℕ) �
 abbrev pub Writes : ℕ → ℕ → (ℕ → ℕ → ℤ) → (ℕ → Rational) → (ℕ → ℕ → ℤ) → Type 0
 Writes n m v c u = (i j : ℕ) → i < n → j < n → sum_ℚ m (λ k. c k *ℚ whole (v k i *ℤ v k j)) ≡ whole (u i j)
 
-pub whole-sum : (n : ℕ) (f : ℕ → ℤ) → whole (sum_to n f) ≡ sum_ℚ n (λ k. whole (f k))
-whole-sum zero f = ap whole (sum_to-zero f) ∙ sym (total-zero rational_ring (λ k. whole (f k)))
-whole-sum (suc n) f =
-    ap whole (sum_to-suc n f) ∙ whole-add (sum_to n f) (f n) ∙ ap (λ w. w +ℚ whole (f n)) (whole-sum n f)
-    ∙ sym (total-suc rational_ring n (λ k. whole (f k)))
-
-whole-sums : (n : ℕ) (f : ℕ → ℕ → ℤ) → whole (sum_to n (λ i. sum_to n (λ j. f i j))) ≡ sum_ℚ n (λ i. sum_ℚ n (λ j. whole (f i j)))
-whole-sums n f = whole-sum n (λ i. sum_to n (λ j. f i j)) ∙ total_same rational_ring n _ _ (λ i l. whole-sum n (λ j. f i j))
-
 -- what Z gives at u, by what it gives at the vectors
 pub paired : (n m : ℕ) (v : ℕ → ℕ → ℤ) (c : ℕ → Rational) (u z : ℕ → ℕ → ℤ) → Writes n m v c u
     → whole (sum_to n (λ i. sum_to n (λ j. z i j *ℤ u i j))) ≡ sum_ℚ m (λ k. c k *ℚ whole (form n z (v k)))
+unfolding bilinear
 paired n m v c u z w =
-    whole-sums n (λ i j. z i j *ℤ u i j)
-    ∙ total_same rational_ring n _ _ (λ i li.
-    total_same rational_ring n _ _ (λ j lj.
+    whole-sums n n (λ i j. z i j *ℤ u i j)
+    ∙ sum_ℚ_same n _ _ (λ i li.
+    sum_ℚ_same n _ _ (λ j lj.
     whole-mul (z i j) (u i j)
     ∙ ap (λ y. whole (z i j) *ℚ y) (sym (w i j li lj))
-    ∙ mul-total rational_ring (whole (z i j)) m (λ k. c k *ℚ whole (v k i *ℤ v k j))
-    ∙ total_same rational_ring m _ (λ k. c k *ℚ whole (z i j *ℤ (v k i *ℤ v k j))) (λ k lk.
+    ∙ mul-sum_ℚ (whole (z i j)) m (λ k. c k *ℚ whole (v k i *ℤ v k j))
+    ∙ sum_ℚ_same m _ (λ k. c k *ℚ whole (z i j *ℤ (v k i *ℤ v k j))) (λ k lk.
     turn (whole (z i j)) (c k) (whole (v k i *ℤ v k j)) ∙ ap (λ y. c k *ℚ y) (sym (whole-mul (z i j) (v k i *ℤ v k j)))))
-    ∙ total_swap rational_ring n m (λ j k. c k *ℚ whole (z i j *ℤ (v k i *ℤ v k j))))
-    ∙ total_swap rational_ring n m (λ i k. sum_ℚ n (λ j. c k *ℚ whole (z i j *ℤ (v k i *ℤ v k j))))
-    ∙ total_same rational_ring m _ _ (λ k lk.
-    total_same rational_ring n _ _ (λ i li. sym (mul-total rational_ring (c k) n (λ j. whole (z i j *ℤ (v k i *ℤ v k j)))))
-    ∙ sym (mul-total rational_ring (c k) n (λ i. sum_ℚ n (λ j. whole (z i j *ℤ (v k i *ℤ v k j)))))
-    ∙ ap (λ y. c k *ℚ y) (sym (whole-sums n (λ i j. z i j *ℤ (v k i *ℤ v k j)))))
+    ∙ sum_ℚ_swap n m (λ j k. c k *ℚ whole (z i j *ℤ (v k i *ℤ v k j))))
+    ∙ sum_ℚ_swap n m (λ i k. sum_ℚ n (λ j. c k *ℚ whole (z i j *ℤ (v k i *ℤ v k j))))
+    ∙ sum_ℚ_same m _ _ (λ k lk.
+    sum_ℚ_same n _ _ (λ i li. sym (mul-sum_ℚ (c k) n (λ j. whole (z i j *ℤ (v k i *ℤ v k j)))))
+    ∙ sym (mul-sum_ℚ (c k) n (λ i. sum_ℚ n (λ j. whole (z i j *ℤ (v k i *ℤ v k j)))))
+    ∙ ap (λ y. c k *ℚ y) (sym (whole-sums n n (λ i j. z i j *ℤ (v k i *ℤ v k j)))))
   where
     turn : (x y z : Rational) → x *ℚ (y *ℚ z) ≡ y *ℚ (x *ℚ z)
     turn x y z = ring_in rational_ring (x ∷ y ∷ z ∷ []) (v0 ⊗ (v1 ⊗ v2)) (v1 ⊗ (v0 ⊗ v2)) refl
@@ -99,7 +89,7 @@ perfect_from_units n m v c w z s vanishes a b la lb =
     ∙ ap₂ (λ (x : ℤ) (y : ℤ). x +ℤ y) (picked n a b z la lb) (picked n b a z lb la) in
     let nothing : whole (sum_to n (λ i. sum_to n (λ j. z i j *ℤ unit a b i j))) ≡ whole (pos 0) =
     paired n m v (c a b) (unit a b) z (w a b la lb)
-    ∙ total_none rational_ring m _ (λ k lk. ap (λ (y : ℤ). c a b k *ℚ whole y) (vanishes k lk) ∙ ring_in rational_ring (c a b k ∷ []) (v0 ⊗ num (pos 0)) (num (pos 0)) refl) in
+    ∙ sum_ℚ_none m _ (λ k lk. ap (λ (y : ℤ). c a b k *ℚ whole y) (vanishes k lk) ∙ ring_in rational_ring (c a b k ∷ []) (v0 ⊗ num (pos 0)) (num (pos 0)) refl) in
     let zero_sum : z a b +ℤ z b a ≡ pos 0 = sym both ∙ whole_same _ (pos 0) nothing in
     let mirror : z a b ≡ z b a = s a b la lb in
     omega (arith, linear)

@@ -1,5 +1,5 @@
 -- A closed cone, and a cone's children.
-use Rattle.std.specs.Prelude.{◌≡◌, ◌≢◌, ℕ, zero, suc, ◌<◌, ℤ, pos, negsuc, ◌+ℤ◌, ◌*ℤ◌, ◌-ℤ◌, ◌≤ℤ◌, neg_ℤ, cond, eqb, Bool, true, false, ◌⊎◌}
+use Rattle.std.specs.Prelude.{◌≡◌, ◌≢◌, ℕ, zero, suc, ◌<◌, ℤ, pos, negsuc, ◌+ℤ◌, ◌*ℤ◌, ◌-ℤ◌, ◌≤ℤ◌, ◌<ℤ◌, neg_ℤ, cond, eqb, Bool, true, false, ◌⊎◌}
 use Rattle.std.proofs.Common.{arith, sym, ◌∙◌, ap, ap₂, refl, inl, inr}
 use Rattle.std.proofs.lemmas.Int.{ints}
 use lib.IntN.{*ℤ_comm}
@@ -8,8 +8,8 @@ use Rattle.exact_forms.specs.Forms.{bilinear, form, combination, IsSymmetric}
 use Rattle.exact_forms.specs.Slacks.{replaced, shortfall, slack, IsClosed, AreNonnegative, SomeNonzero}
 use Rattle.commutative_ring.proofs.Laws.{mul_add_ℤ, add_mul_ℤ, zero_mul_ℤ}
 use Rattle.commutative_ring.proofs.Expand.{expand, linear}
-use Rattle.exact_forms.proofs.Sums.{sum_to-zero, sum_to-suc, sum_to_same, mul-sum_to, sum_to-mul, sum_to_swap, sum_to_le, sum_to_but_one, sum_to-neg, term_le_sum}
-use Rattle.exact_forms.proofs.Forms.{sums_same, sums-add, mul-sums, bilinear_symmetric, form-combination}
+use Rattle.exact_forms.proofs.Sums.{sum_to-zero, sum_to-suc, sum_to_same, mul-sum_to, sum_to-mul, sum_to_swap, sum_to_le, sum_to_but_one, sum_to-neg, term_le_sum, sums_same, sums-add, mul-sums}
+use Rattle.exact_forms.proofs.Forms.{bilinear_symmetric, form-combination}
 use Rattle.exact_forms.proofs.Order.{nonneg_mul, nonneg_square, mul_le_left, one_le_square, le_of_mul_le_left}
 
 pub same_or_not : (k i : ℕ) → (k ≡ i) ⊎ (k ≢ i)
@@ -22,12 +22,33 @@ pub replaced_other : {A : Type 0} (f : ℕ → A) (i : ℕ) (y : A) (k : ℕ) �
 replaced_other f i y k e = let t : eqb k i ≡ false = grind arith in ap (λ (b : Bool). cond b y (f k)) t
 
 pub shortfall_nonneg : (z : ℤ) → pos 0 ≤ℤ shortfall z
+unfolding shortfall
 shortfall_nonneg (pos n) = omega (arith, ints)
 shortfall_nonneg (negsuc n) = omega (arith, ints)
 
 pub shortfall_lifts : (z : ℤ) → pos 0 ≤ℤ (z +ℤ shortfall z)
+unfolding shortfall
 shortfall_lifts (pos n) = omega (arith, ints)
 shortfall_lifts (negsuc n) = omega (arith, ints)
+
+pub shortfall_of_nonneg : (z : ℤ) → pos 0 ≤ℤ z → shortfall z ≡ pos 0
+unfolding shortfall
+shortfall_of_nonneg (pos n) h = refl
+shortfall_of_nonneg (negsuc n) h = absurd (omega (arith, ints))
+
+pub shortfall_of_negative : (z : ℤ) → z <ℤ pos 0 → shortfall z ≡ neg_ℤ z
+unfolding shortfall
+shortfall_of_negative (pos n) h = absurd (omega (arith, ints))
+shortfall_of_negative (negsuc n) h = refl
+
+pub slack_is_diagonal_less : (m : ℕ) (g : ℕ → ℕ → ℤ) (i : ℕ) → slack m g i ≡ g i i -ℤ sum_to m (λ j. cond (eqb j i) (pos 0) (shortfall (g i j)))
+unfolding slack
+slack_is_diagonal_less m g i = refl
+
+-- the entries of its row decide a slack
+pub slack_same : (m : ℕ) (g h : ℕ → ℕ → ℤ) (i : ℕ) → i < m → ((j : ℕ) → j < m → g i j ≡ h i j) → slack m g i ≡ slack m h i
+unfolding slack
+slack_same m g h i l e = ap₂ (λ (a : ℤ) (b : ℤ). a -ℤ b) (e i l) (sum_to_same m _ _ (λ j lj. ap (λ (z : ℤ). cond (eqb j i) (pos 0) (shortfall z)) (e j lj)))
 
 -- two sums that differ in two terms, which come to the same
 pub sum_to_but_two : (n : ℕ) (f g : ℕ → ℤ) (i j : ℕ) → i < n → j < n → i ≢ j
@@ -49,6 +70,7 @@ abbrev weakened : (ℕ → ℕ → ℤ) → ℕ → ℕ → ℤ
 weakened g i j = replaced (λ k. neg_ℤ (shortfall (g i k))) i (g i i) j
 
 slack_is : (m : ℕ) (g : ℕ → ℕ → ℤ) (i : ℕ) → i < m → sum_to m (weakened g i) ≡ slack m g i
+unfolding slack
 slack_is m g i l =
     let s : ℕ → ℤ = λ (j : ℕ). replaced (λ k. shortfall (g i k)) i (pos 0) j in
     let e : sum_to m (weakened g i) +ℤ neg_ℤ (s i) ≡ sum_to m (λ j. neg_ℤ (s j)) +ℤ weakened g i i =
@@ -93,6 +115,7 @@ entry_bound m g a i j hi hj = by (same_or_not j i)
 -- the form is at least the slacks times the squares
 pub form_over_slacks : (m : ℕ) (g : ℕ → ℕ → ℤ) (a : ℕ → ℤ) → IsSymmetric m g → AreNonnegative m a
     → sum_to m (λ i. slack m g i *ℤ (a i *ℤ a i)) ≤ℤ form m g a
+unfolding bilinear
 form_over_slacks m g a sym_g nonneg =
     let e : ℕ → ℕ → ℤ = weakened g in
     let rows : ℤ = sum_to m (λ i. sum_to m (λ j. e i j *ℤ (a i *ℤ a i))) in
@@ -151,6 +174,7 @@ closed_at_zero n m q v a s closed nonneg =
 
 -- a combination that is not zero at some place has a coefficient that is not 0
 pub some_nonzero : (m : ℕ) (a : ℕ → ℤ) (v : ℕ → ℕ → ℤ) (p : ℕ) → combination m a v p ≢ pos 0 → SomeNonzero m a
+unfolding combination
 some_nonzero m a v p h = search_below m h
   where
     zero_or_not : (z : ℤ) → (z ≡ pos 0) ⊎ (z ≢ pos 0)
@@ -228,6 +252,7 @@ child_coefficients a i j = replaced a j (a j -ℤ a i)
 
 pub child_zero_covers : (m : ℕ) (v : ℕ → ℕ → ℤ) (a : ℕ → ℤ) (i j p : ℕ) → i < m → j < m → i ≢ j
     → combination m (child_coefficients a i j) (child_zero v i j) p ≡ combination m a v p
+unfolding combination
 child_zero_covers m v a i j p li lj ne =
     let f : ℕ → ℤ = λ (k : ℕ). child_coefficients a i j k *ℤ child_zero v i j k p in
     let g : ℕ → ℤ = λ (k : ℕ). a k *ℤ v k p in

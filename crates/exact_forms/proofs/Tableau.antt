@@ -1,11 +1,12 @@
 -- An exchange keeps a tableau's columns.
 use Rattle.std.specs.Prelude.{◌≡◌, ◌≢◌, ℕ, ◌<◌, pos, negsuc, ◌⊎◌, List, [], ◌∷◌, cond, eqb, Bool, true, false}
 use Rattle.std.proofs.Common.{arith, sym, ◌∙◌, ap, ap₂, refl, inl, inr}
-use Rattle.commutative_ring.proofs.SumOf.{total_same, total-add, mul-total, total_but_one}
 use Rattle.commutative_ring.proofs.Ring.{ring_in, normal, value, at, Expr, num, ◌⊕◌, ◌⊗◌, neg, v0, v1, v2, v3}
 use Rattle.exact_forms.specs.Slacks.{replaced}
 use Rattle.exact_forms.specs.Rational.{Rational, whole, inverse, neg_ℚ, ◌+ℚ◌, ◌*ℚ◌, ◌-ℚ◌, ◌/ℚ◌}
-use Rattle.exact_forms.specs.Tableau.{sum_ℚ, AreCoordinates, IsIndependent, IsTableau, exchanged}
+use Rattle.exact_forms.specs.Sums.{sum_ℚ}
+use Rattle.exact_forms.proofs.RationalSums.{sum_ℚ_same, sum_ℚ-add, mul-sum_ℚ, sum_ℚ_but_one}
+use Rattle.exact_forms.specs.Tableau.{AreCoordinates, IsIndependent, IsTableau, exchanged}
 use Rattle.exact_forms.proofs.Rational.{rational_ring, mul-inverse, one_mul_ℚ, zero_mul_ℚ}
 use Rattle.exact_forms.proofs.Slacks.{replaced_here, replaced_other, same_or_not}
 
@@ -35,7 +36,7 @@ exchange_keeps places n columns t basic r c lr ne h j p lp =
     let f : ℕ → Rational = λ (i : ℕ). t i j *ℚ columns (basic i) p +ℚ neg_ℚ s *ℚ (t i c *ℚ columns (basic i) p) in
     let g : ℕ → Rational = λ (i : ℕ). exchanged t r c i j *ℚ columns (replaced basic r c i) p in
     let apart : sum_ℚ n g +ℚ f r ≡ sum_ℚ n f +ℚ g r =
-    total_but_one rational_ring n g f r lr (λ i l ni.
+    sum_ℚ_but_one n g f r lr (λ i l ni.
     ap₂ (λ (x : Rational) (k : ℕ). x *ℚ columns k p) (exchanged_other t r c i j ni) (replaced_other basic r c i ni)
     ∙ ring_ℚ (t i j ∷ t i c ∷ s ∷ columns (basic i) p ∷ []) ((v0 ⊕ neg (v1 ⊗ v2)) ⊗ v3) (v0 ⊗ v3 ⊕ neg v2 ⊗ (v1 ⊗ v3)) refl) in
     let nothing : f r ≡ whole (pos 0) =
@@ -44,8 +45,8 @@ exchange_keeps places n columns t basic r c lr ne h j p lp =
     let at_r : g r ≡ s *ℚ columns c p =
     ap₂ (λ (x : Rational) (k : ℕ). x *ℚ columns k p) (exchanged_here t r c r j refl) (replaced_here basic r c r refl) in
     let before : sum_ℚ n f ≡ columns j p +ℚ neg_ℚ s *ℚ columns c p =
-    total-add rational_ring n (λ i. t i j *ℚ columns (basic i) p) (λ i. neg_ℚ s *ℚ (t i c *ℚ columns (basic i) p))
-    ∙ ap₂ (λ x y. x +ℚ y) (h j p lp) (sym (mul-total rational_ring (neg_ℚ s) n (λ i. t i c *ℚ columns (basic i) p)) ∙ ap (λ w. neg_ℚ s *ℚ w) (h c p lp)) in
+    sum_ℚ-add n (λ i. t i j *ℚ columns (basic i) p) (λ i. neg_ℚ s *ℚ (t i c *ℚ columns (basic i) p))
+    ∙ ap₂ (λ x y. x +ℚ y) (h j p lp) (sym (mul-sum_ℚ (neg_ℚ s) n (λ i. t i c *ℚ columns (basic i) p)) ∙ ap (λ w. neg_ℚ s *ℚ w) (h c p lp)) in
     ring_ℚ (sum_ℚ n g ∷ []) v0 (v0 ⊕ num (pos 0)) refl
     ∙ ap (λ w. sum_ℚ n g +ℚ w) (sym nothing)
     ∙ apart
@@ -57,9 +58,9 @@ pub coordinates_unique : (places n : ℕ) (b : ℕ → ℕ → Rational) (c d x 
     → AreCoordinates places n b c x → AreCoordinates places n b d x → (k : ℕ) → k < n → c k ≡ d k
 coordinates_unique places n b c d x free hc hd k l =
     let zero_difference : c k +ℚ neg_ℚ (d k) ≡ whole (pos 0) = free (λ k. c k +ℚ neg_ℚ (d k)) (λ p lp.
-    total_same rational_ring n _ _ (λ k l. ring_ℚ (c k ∷ d k ∷ b k p ∷ []) ((v0 ⊕ neg v1) ⊗ v2) (v0 ⊗ v2 ⊕ num (negsuc 0) ⊗ (v1 ⊗ v2)) refl)
-    ∙ total-add rational_ring n (λ k. c k *ℚ b k p) (λ k. whole (negsuc 0) *ℚ (d k *ℚ b k p))
-    ∙ ap₂ (λ y z. y +ℚ z) (hc p lp) (sym (mul-total rational_ring (whole (negsuc 0)) n (λ k. d k *ℚ b k p)) ∙ ap (λ w. whole (negsuc 0) *ℚ w) (hd p lp))
+    sum_ℚ_same n _ _ (λ k l. ring_ℚ (c k ∷ d k ∷ b k p ∷ []) ((v0 ⊕ neg v1) ⊗ v2) (v0 ⊗ v2 ⊕ num (negsuc 0) ⊗ (v1 ⊗ v2)) refl)
+    ∙ sum_ℚ-add n (λ k. c k *ℚ b k p) (λ k. whole (negsuc 0) *ℚ (d k *ℚ b k p))
+    ∙ ap₂ (λ y z. y +ℚ z) (hc p lp) (sym (mul-sum_ℚ (whole (negsuc 0)) n (λ k. d k *ℚ b k p)) ∙ ap (λ w. whole (negsuc 0) *ℚ w) (hd p lp))
     ∙ ring_ℚ (x p ∷ []) (v0 ⊕ num (negsuc 0) ⊗ v0) (num (pos 0)) refl) k l in
     ring_ℚ (c k ∷ d k ∷ []) v0 ((v0 ⊕ neg v1) ⊕ v1) refl ∙ ap (λ w. w +ℚ d k) zero_difference ∙ ring_ℚ (d k ∷ []) (num (pos 0) ⊕ v0) v0 refl
 
@@ -77,13 +78,13 @@ exchange_keeps_independent places n columns t basic r c lr ne h free d none k lk
     old_none p lp =
         let f : ℕ → Rational = λ (i : ℕ). replaced d r (whole (pos 0)) i *ℚ columns (basic i) p in
         let g : ℕ → Rational = λ (i : ℕ). d i *ℚ columns (replaced basic r c i) p in
-        let apart : sum_ℚ n f +ℚ g r ≡ sum_ℚ n g +ℚ f r = total_but_one rational_ring n f g r lr (λ i l ni.
+        let apart : sum_ℚ n f +ℚ g r ≡ sum_ℚ n g +ℚ f r = sum_ℚ_but_one n f g r lr (λ i l ni.
         ap₂ (λ (x : Rational) (k : ℕ). x *ℚ columns k p) (replaced_other d r (whole (pos 0)) i ni) (sym (replaced_other basic r c i ni))) in
         let f_r : f r ≡ whole (pos 0) = ap (λ w. w *ℚ columns (basic r) p) (replaced_here d r (whole (pos 0)) r refl) ∙ zero_mul_ℚ (columns (basic r) p) in
         let g_r : g r ≡ d r *ℚ columns c p = ap (λ (k : ℕ). d r *ℚ columns k p) (replaced_here basic r c r refl) in
-        total_same rational_ring n _ _ (λ i l. ring_ℚ (replaced d r (whole (pos 0)) i ∷ d r ∷ t i c ∷ columns (basic i) p ∷ []) ((v0 ⊕ v1 ⊗ v2) ⊗ v3) (v0 ⊗ v3 ⊕ v1 ⊗ (v2 ⊗ v3)) refl)
-        ∙ total-add rational_ring n f (λ i. d r *ℚ (t i c *ℚ columns (basic i) p))
-        ∙ ap (λ w. sum_ℚ n f +ℚ w) (sym (mul-total rational_ring (d r) n (λ i. t i c *ℚ columns (basic i) p)) ∙ ap (λ w. d r *ℚ w) (h c p lp) ∙ sym g_r)
+        sum_ℚ_same n _ _ (λ i l. ring_ℚ (replaced d r (whole (pos 0)) i ∷ d r ∷ t i c ∷ columns (basic i) p ∷ []) ((v0 ⊕ v1 ⊗ v2) ⊗ v3) (v0 ⊗ v3 ⊕ v1 ⊗ (v2 ⊗ v3)) refl)
+        ∙ sum_ℚ-add n f (λ i. d r *ℚ (t i c *ℚ columns (basic i) p))
+        ∙ ap (λ w. sum_ℚ n f +ℚ w) (sym (mul-sum_ℚ (d r) n (λ i. t i c *ℚ columns (basic i) p)) ∙ ap (λ w. d r *ℚ w) (h c p lp) ∙ sym g_r)
         ∙ apart
         ∙ ap₂ (λ x y. x +ℚ y) (none p lp) f_r
         ∙ ring_ℚ [] (num (pos 0) ⊕ num (pos 0)) (num (pos 0)) refl

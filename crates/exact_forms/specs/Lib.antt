@@ -2,4 +2,9 @@ pub mod Sums
 pub mod Forms
 pub mod Slacks
 pub mod Rational
+pub mod Signs
 pub mod Tableau
+pub mod Triangles
+pub mod Vectors
+pub mod Copositive
+pub mod Factors

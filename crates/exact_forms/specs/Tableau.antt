@@ -1,10 +1,7 @@
 -- A tableau of fractions: columns written over basic columns.
 use Rattle.std.specs.Prelude.{ℕ, pos, ◌≡◌, ◌<◌, cond, eqb}
-use Rattle.commutative_ring.specs.SumOf.{sum_of}
-use Rattle.exact_forms.specs.Rational.{Rational, whole, ◌+ℚ◌, ◌*ℚ◌, ◌-ℚ◌, ◌/ℚ◌}
-
-abbrev pub sum_ℚ : ℕ → (ℕ → Rational) → Rational
-sum_ℚ n f = sum_of (whole (pos 0)) (λ x y. x +ℚ y) n f
+use Rattle.exact_forms.specs.Rational.{Rational, whole, ◌*ℚ◌, ◌-ℚ◌, ◌/ℚ◌}
+use Rattle.exact_forms.specs.Sums.{sum_ℚ}
 
 -- c are coordinates of x over the n vectors b, over places below the bound
 abbrev pub AreCoordinates : ℕ → ℕ → (ℕ → ℕ → Rational) → (ℕ → Rational) → (ℕ → Rational) → Type 0
