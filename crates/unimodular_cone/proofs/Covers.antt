@@ -4,11 +4,11 @@ use Rattle.std.proofs.Common.{arith, sym, ◌∙◌, ap, ap₂, refl, inl, inr}
 use Rattle.std.proofs.lemmas.Int.{ints}
 use Rattle.exact_forms.specs.Sums.{sum_to}
 use Rattle.exact_forms.specs.Forms.{form, combination, IsSymmetric}
-use Rattle.exact_forms.specs.Slacks.{replaced, shortfall, IsClosed, AreNonnegative, SomeNonzero}
+use Rattle.exact_forms.specs.Slacks.{replaced, shortfall, slack, IsClosed, AreNonnegative, SomeNonzero}
 use Rattle.commutative_ring.proofs.Laws.{one_mul_ℤ, zero_mul_ℤ, mul_zero_ℤ}
 use Rattle.commutative_ring.proofs.Expand.{linear, times_one}
 use Rattle.exact_forms.proofs.Sums.{sum_to_same, sum_to_one, sum_to_none}
-use Rattle.exact_forms.proofs.Forms.{sums_same, bilinear_symmetric}
+use Rattle.exact_forms.proofs.Forms.{form_same, bilinear_symmetric}
 use Rattle.exact_forms.proofs.Slacks.{same_or_not, replaced_here, replaced_other, closed_bound, closed_at_zero, closed_equality, some_nonzero, child_zero_covers, child_coefficients_nonnegative, IsUnit}
 use Rattle.unimodular_cone.proofs.Pairs.{pair_of_some, pair_of_none}
 use Rattle.unimodular_cone.specs.Paths.{Path}
@@ -18,8 +18,8 @@ pub total_ℤ : (x y : ℤ) → (x ≤ℤ y) ⊎ (y ≤ℤ x)
 total_ℤ x y = grind (arith, ints)
 
 -- the form looks at the places below n alone
-pub form_same : (n : ℕ) (q : Matrix) (x y : ℕ → ℤ) → ((p : ℕ) → p < n → x p ≡ y p) → form n q x ≡ form n q y
-form_same n q x y e = sums_same n n _ _ (λ i j li lj. ap₂ (λ (a : ℤ) (b : ℤ). q i j *ℤ (a *ℤ b)) (e i li) (e j lj))
+pub value_same : (n : ℕ) (q : Matrix) (x y : ℕ → ℤ) → ((p : ℕ) → p < n → x p ≡ y p) → form n q x ≡ form n q y
+value_same n q x y e = form_same n q q x y (λ i j li lj. refl) e
 
 -- ---- a cone and its children
 pub lies_in_first : (n : ℕ) (v : Generators) (x : ℕ → ℤ) (i j : ℕ) → i < n → j < n → i ≢ j → (l : LiesIn n v x) → l.coefficients i ≤ℤ l.coefficients j → LiesIn n (child v i j) x
@@ -37,6 +37,7 @@ lies_in_some_child n v x i j li lj ne l = by (total_ℤ (l.coefficients i) (l.co
     by (inr le) = inr (lies_in_first n v x j i lj li (λ e. ne (sym e)) l le)
 
 pub lies_in_parent : (n : ℕ) (v : Generators) (x : ℕ → ℤ) (i j : ℕ) → i < n → j < n → i ≢ j → LiesIn n (child v i j) x → LiesIn n v x
+unfolding sum_to combination
 lies_in_parent n v x i j li lj ne l = record {
   coefficients = up;
   nonnegative = λ k lk. up_nonnegative k lk (same_or_not k j);
@@ -65,6 +66,7 @@ lies_in_parent n v x i j li lj ne l = record {
 
 -- ---- generators
 pub combination_unit : (n : ℕ) (a : ℕ → ℤ) (v : Generators) (k p : ℕ) → IsUnit n a k → combination n a v p ≡ v k p
+unfolding sum_to combination
 combination_unit n a v k p (l, one, others) =
     sum_to_one n (λ i. a i *ℤ v i p) k l (λ i li ne. ap (λ (w : ℤ). w *ℤ v i p) (others i li ne) ∙ zero_mul_ℤ (v i p))
     ∙ ap (λ (w : ℤ). w *ℤ v k p) one
@@ -92,6 +94,7 @@ unit_vector_is i p (inl e) = inl (e, replaced_here (λ i. pos 0) p (pos 1) i e)
 unit_vector_is i p (inr ne) = inr (ne, replaced_other (λ i. pos 0) p (pos 1) i ne)
 
 pub root_has : (n : ℕ) (x : ℕ → ℤ) → AreNonnegative n x → LiesIn n unit_vectors x
+unfolding sum_to combination
 root_has n x nonneg = record { coefficients = x; nonnegative = nonneg; same = same }
   where
     same : (p : ℕ) → p < n → combination n x unit_vectors p ≡ x p
@@ -110,27 +113,29 @@ nonzero_coefficients n v x l (p, lp, ne) = some_nonzero n l.coefficients v p (λ
 pub closed_at_least : (n : ℕ) (q : Matrix) (v : Generators) (b : ℤ) (x : ℕ → ℤ)
     → IsSymmetric n q → pos 0 ≤ℤ b → IsClosed n (gram n q v) b → LiesIn n v x → IsNonzeroBelow n x → b ≤ℤ form n q x
 closed_at_least n q v b x s nonneg closed l nonzero =
-    rw (sym (form_same n q _ _ l.same)) (closed_bound n n q v b l.coefficients s nonneg closed l.nonnegative (nonzero_coefficients n v x l nonzero))
+    rw (sym (value_same n q _ _ l.same)) (closed_bound n n q v b l.coefficients s nonneg closed l.nonnegative (nonzero_coefficients n v x l nonzero))
 
 pub closed_nonnegative : (n : ℕ) (q : Matrix) (v : Generators) (x : ℕ → ℤ)
     → IsSymmetric n q → IsClosed n (gram n q v) (pos 0) → LiesIn n v x → pos 0 ≤ℤ form n q x
 closed_nonnegative n q v x s closed l =
-    rw (sym (form_same n q _ _ l.same)) (closed_at_zero n n q v l.coefficients s closed l.nonnegative)
+    rw (sym (value_same n q _ _ l.same)) (closed_at_zero n n q v l.coefficients s closed l.nonnegative)
 
 pub closed_attains : (n : ℕ) (q : Matrix) (v : Generators) (b : ℤ) (x : ℕ → ℤ)
     → IsSymmetric n q → pos 1 ≤ℤ b → IsClosed n (gram n q v) b → LiesIn n v x → IsNonzeroBelow n x → form n q x ≡ b
     → (k : ℕ) × (k < n) × ((p : ℕ) → p < n → x p ≡ v k p)
 closed_attains n q v b x s positive closed l nonzero attained =
     let r : (k : ℕ) × IsUnit n l.coefficients k =
-    closed_equality n n q v b l.coefficients s positive closed l.nonnegative (nonzero_coefficients n v x l nonzero) (form_same n q _ _ l.same ∙ attained) in
+    closed_equality n n q v b l.coefficients s positive closed l.nonnegative (nonzero_coefficients n v x l nonzero) (value_same n q _ _ l.same ∙ attained) in
     (r.0, r.1.0, λ p lp. sym (l.same p lp) ∙ combination_unit n l.coefficients v r.0 p r.1)
 
 no_shortfall : (z : ℤ) → pos 0 ≤ℤ z → shortfall z ≡ pos 0
+unfolding shortfall
 no_shortfall (pos n) h = refl
 no_shortfall (negsuc n) h = absurd (omega (arith, ints))
 
 -- a cone with no negative entry beside the diagonal is closed at each bound of its values
 pub closed_without_pair : (n : ℕ) (q : Matrix) (v : Generators) (b : ℤ) → IsSymmetric n q → pair_of n (gram n q v) ≡ None → ((k : ℕ) → k < n → b ≤ℤ value n q v k) → IsClosed n (gram n q v) b
+unfolding slack
 closed_without_pair n q v b s none least i li =
     let g : Matrix = gram n q v in
     let rest : sum_to n (λ j. cond (eqb j i) (pos 0) (shortfall (g i j))) ≡ pos 0 = sum_to_none n _ (λ j lj. by j lj (same_or_not j i)) in

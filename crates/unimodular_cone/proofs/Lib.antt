@@ -8,3 +8,4 @@ pub mod Minimum
 pub mod Unique
 pub mod AnswerUnique
 pub mod Orders
+pub mod Packing

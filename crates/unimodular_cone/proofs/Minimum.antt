@@ -9,7 +9,7 @@ use Rattle.unimodular_cone.specs.Paths.{Path, IsAbove}
 use Rattle.unimodular_cone.specs.Cones.{Matrix, gram, value, cone_at, pair_of}
 use Rattle.unimodular_cone.specs.Tree.{Mode, Sign, Least, CanSplit, IsInTree, IsLowValue, IsLow, IsClosedAt, IsFinalBound, HasWideChild}
 use Rattle.unimodular_cone.specs.Answer.{coordinate, IsNonzero, Attains, IsMinimum, IsCopositive, Found, Copositive, Low, IsSearchAnswer, IsClosedAnswer, IsVector}
-use Rattle.unimodular_cone.proofs.Covers.{form_same, closed_at_least, closed_nonnegative, closed_attains, closed_without_pair, IsNonzeroBelow}
+use Rattle.unimodular_cone.proofs.Covers.{value_same, closed_at_least, closed_nonnegative, closed_attains, closed_without_pair, IsNonzeroBelow}
 use Rattle.unimodular_cone.proofs.Bounded.{closed_or_not}
 use Rattle.unimodular_cone.proofs.Generators.{listed, as_vector, proper}
 use Rattle.unimodular_cone.proofs.Tree.{above_child, none_above_root, in_tree_root, in_tree_child, HasChildren, StopsAt, descend_from_root, wide_or_splits}
@@ -118,11 +118,11 @@ minimum_is n q d b vectors s (_, a, lists) = record {
         let v : ℕ → ℤ = cone_at n q path k in
         let x : List ℕ = listed n (λ p. nat_abs (v p)) in
         let h : IsVector n x v = as_vector n v ((proper n q path).nonnegative k l) in
-        let attains : Attains n q b x = record { size = h.size; nonzero = nonzero_vector n x v h ((proper n q path).nonzero k l); value = form_same n q (coordinate x) v h.same ∙ e } in
+        let attains : Attains n q b x = record { size = h.size; nonzero = nonzero_vector n x v h ((proper n q path).nonzero k l); value = value_same n q (coordinate x) v h.same ∙ e } in
         empty_contains x (subst (λ (w : List (List ℕ)). Contains w x) none (lists.all x attains))
 
 pub low_is : (m : Mode) (n : ℕ) (q : Matrix) (d : ℕ) (x : List ℕ) (z : ℤ) (path : Path) → IsSearchAnswer m n q d (Low x z path) → form n q (coordinate x) ≡ z
-low_is m n q d x z path a = form_same n q (coordinate x) (cone_at n q path a.which) a.vector.same ∙ a.value
+low_is m n q d x z path a = value_same n q (coordinate x) (cone_at n q path a.which) a.vector.same ∙ a.value
 
 -- and each attaining vector is a generator of a cone of the tree
 pub attaining_is_generator : (n : ℕ) (q : Matrix) (d : ℕ) (b : ℤ) (x : List ℕ) → IsSymmetric n q → IsClosedAnswer Least n q d b → pos 1 ≤ℤ b → Attains n q b x

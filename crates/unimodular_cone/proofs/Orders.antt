@@ -1,61 +1,57 @@
--- The order by place as a test.
-use Rattle.std.specs.Prelude.{◌≡◌, ◌≢◌, ℕ, zero, suc, ◌<◌, ◌≤◌, ◌+◌, not, Bool, true, false, [], ◌∷◌, length, ◌++◌, take, drop, slice_index_or}
-use Rattle.std.specs.Bool.{MatchBool}
-use Rattle.std.proofs.Common.{arith, sym, ◌∙◌, ap, ap₂, refl, drop-cons}
-use Rattle.unimodular_cone.specs.Paths.{Path, IsAbove, IsNoLater, no_later}
+-- The orders of paths, and what stands above a path.
+use Rattle.std.specs.Prelude.{◌≡◌, ◌≢◌, ℕ, zero, suc, ◌<◌, Bool, true, false, [], ◌∷◌, length, ◌++◌, take}
+use Rattle.std.specs.Ordering.{MatchOrdering, nat_cmp, ordering_then}
+use Rattle.std.specs.Cmp.{ranks}
+use Rattle.std.specs.declared.cmp.Ordering.{Ordering}
+use Rattle.std.specs.declared.cmp.Ordering.TheVariants.{Less, Equal, Greater}
+use Rattle.std.proofs.Common.{arith, sym, ◌∙◌, ap, refl, inl, inr, subst}
+use Rattle.unimodular_cone.specs.Paths.{Path, IsAbove, IsNoLater, IsNoDeeper, place_order, depth_order}
 
-pub no_later_is : (p r : Path) → MatchBool (no_later p r) (IsNoLater p r) (¬ IsNoLater p r)
-unfolding no_later
-no_later_is [] r = tt
-no_later_is (s ∷ p) [] = λ h. h
-no_later_is (false ∷ p) (false ∷ r) = no_later_is p r
-no_later_is (false ∷ p) (true ∷ r) = tt
-no_later_is (true ∷ p) (false ∷ r) = λ h. h
-no_later_is (true ∷ p) (true ∷ r) = no_later_is p r
+-- what an answer of the order by place says
+pub place_order_is : (p r : Path) → MatchOrdering (place_order p r) (IsNoLater p r × (¬ IsNoLater r p)) (p ≡ r) (IsNoLater r p × (¬ IsNoLater p r))
+unfolding place_order
+place_order_is [] [] = refl
+place_order_is [] (s ∷ r) = (tt, λ h. h)
+place_order_is (s ∷ p) [] = (tt, λ h. h)
+place_order_is (false ∷ p) (false ∷ r) = more (place_order p r) (place_order_is p r)
+  where
+    more : (o : Ordering) → MatchOrdering o (IsNoLater p r × (¬ IsNoLater r p)) (p ≡ r) (IsNoLater r p × (¬ IsNoLater p r))
+        → MatchOrdering o (IsNoLater p r × (¬ IsNoLater r p)) (◌≡◌ {A = Path} (false ∷ p) (false ∷ r)) (IsNoLater r p × (¬ IsNoLater p r))
+    more Less h = h
+    more Equal h = ap (λ (w : Path). false ∷ w) h
+    more Greater h = h
+place_order_is (false ∷ p) (true ∷ r) = (tt, λ h. h)
+place_order_is (true ∷ p) (false ∷ r) = (tt, λ h. h)
+place_order_is (true ∷ p) (true ∷ r) = more (place_order p r) (place_order_is p r)
+  where
+    more : (o : Ordering) → MatchOrdering o (IsNoLater p r × (¬ IsNoLater r p)) (p ≡ r) (IsNoLater r p × (¬ IsNoLater p r))
+        → MatchOrdering o (IsNoLater p r × (¬ IsNoLater r p)) (◌≡◌ {A = Path} (true ∷ p) (true ∷ r)) (IsNoLater r p × (¬ IsNoLater p r))
+    more Less h = h
+    more Equal h = ap (λ (w : Path). true ∷ w) h
+    more Greater h = h
 
--- ---- one digit after the other
-pub no_later_nil : (r : Path) → no_later [] r ≡ true
-unfolding no_later
-no_later_nil r = refl
+pub no_later_self : (p : Path) → IsNoLater p p
+no_later_self [] = tt
+no_later_self (false ∷ p) = no_later_self p
+no_later_self (true ∷ p) = no_later_self p
 
-pub no_later_prefix : (s : Bool) (p : Path) → no_later (s ∷ p) [] ≡ false
-unfolding no_later
-no_later_prefix s p = refl
+-- and by depth
+pub depth_order_is : (p r : Path) → MatchOrdering (depth_order p r) (IsNoDeeper p r × (p ≢ r)) (p ≡ r) (IsNoDeeper r p × (p ≢ r))
+unfolding depth_order
+depth_order_is p r = by (nat_cmp (length p) (length r)) (ranks (length p) (length r))
+  where
+    apart : (a b : ℕ) → a < b → a ≢ b
+    apart a b l e = omega arith
 
-pub no_later_same : (s t : Bool) (p r : Path) → s ≡ t → no_later (s ∷ p) (t ∷ r) ≡ no_later p r
-unfolding no_later
-no_later_same false false p r e = refl
-no_later_same false true p r e = (cc)
-no_later_same true false p r e = (cc)
-no_later_same true true p r e = refl
+    same : (o : Ordering) → length p ≡ length r → MatchOrdering o (IsNoLater p r × (¬ IsNoLater r p)) (p ≡ r) (IsNoLater r p × (¬ IsNoLater p r)) → MatchOrdering o (IsNoDeeper p r × (p ≢ r)) (p ≡ r) (IsNoDeeper r p × (p ≢ r))
+    same Less e (h, k) = (inr (e, h), λ f. k (subst (λ (w : Path). IsNoLater w p) f (no_later_self p)))
+    same Equal e h = h
+    same Greater e (h, k) = (inr (sym e, h), λ f. k (subst (λ (w : Path). IsNoLater p w) f (no_later_self p)))
 
-pub no_later_other : (s t : Bool) (p r : Path) → s ≢ t → no_later (s ∷ p) (t ∷ r) ≡ not s
-unfolding no_later
-no_later_other false false p r e = absurd (e refl)
-no_later_other false true p r e = refl
-no_later_other true false p r e = refl
-no_later_other true true p r e = absurd (e refl)
-
--- the same at place k of both
-drop_all : (p : Path) (k : ℕ) → length p ≤ k → drop k p ≡ []
-drop_all [] zero l = refl
-drop_all [] (suc k) l = refl
-drop_all (a ∷ p) zero l = absurd (omega arith)
-drop_all (a ∷ p) (suc k) l = drop_all p k (omega arith)
-
-pub no_later_at_end : (p r : Path) (k : ℕ) → length p ≤ k → no_later (drop k p) (drop k r) ≡ true
-no_later_at_end p r k l = ap (λ (w : Path). no_later w (drop k r)) (drop_all p k l) ∙ no_later_nil (drop k r)
-
-pub no_later_at_prefix : (p r : Path) (k : ℕ) → k < length p → length r ≤ k → no_later (drop k p) (drop k r) ≡ false
-no_later_at_prefix p r k l h = ap₂ no_later (drop-cons p k false l) (drop_all r k h) ∙ no_later_prefix (slice_index_or p k false) (drop (suc k) p)
-
-pub no_later_at_same : (p r : Path) (k : ℕ) → k < length p → k < length r → slice_index_or p k false ≡ slice_index_or r k false → no_later (drop k p) (drop k r) ≡ no_later (drop (k + 1) p) (drop (k + 1) r)
-no_later_at_same p r k l h e =
-    let f : k + 1 ≡ suc k = omega arith in
-    rw f (ap₂ no_later (drop-cons p k false l) (drop-cons r k false h) ∙ no_later_same _ _ (drop (suc k) p) (drop (suc k) r) e)
-
-pub no_later_at_other : (p r : Path) (k : ℕ) → k < length p → k < length r → slice_index_or p k false ≢ slice_index_or r k false → no_later (drop k p) (drop k r) ≡ not (slice_index_or p k false)
-no_later_at_other p r k l h e = ap₂ no_later (drop-cons p k false l) (drop-cons r k false h) ∙ no_later_other _ _ (drop (suc k) p) (drop (suc k) r) e
+    by : (o : Ordering) → MatchOrdering o (length p < length r) (length p ≡ length r) (length r < length p) → MatchOrdering (ordering_then o (place_order p r)) (IsNoDeeper p r × (p ≢ r)) (p ≡ r) (IsNoDeeper r p × (p ≢ r))
+    by Less l = (inl l, λ f. apart _ _ l (ap length f))
+    by Equal e = same (place_order p r) e (place_order_is p r)
+    by Greater l = (inl l, λ f. apart _ _ l (ap length (sym f)))
 
 pub no_later_trans : (p r t : Path) → IsNoLater p r → IsNoLater r t → IsNoLater p t
 no_later_trans [] r t h k = tt

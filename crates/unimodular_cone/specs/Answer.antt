@@ -9,45 +9,11 @@
 -- The copositive minimum and its vectors are those of exact_forms.
 use Rattle.std.specs.Prelude.{ℕ, ℤ, pos, ◌≤ℤ◌, ◌<ℤ◌, ◌<◌, ◌-◌, ◌^◌, ◌≡◌, ◌≢◌, ◌⊎◌, List, [], ◌∷◌, length, slice_index_or}
 use Rattle.std.specs.List.{Contains}
-use Rattle.exact_forms.specs.Forms.{form}
+pub use Rattle.exact_forms.specs.Vectors.{coordinate, IsNonzero, ComesBefore, IsIncreasing}
+pub use Rattle.exact_forms.specs.Copositive.{Attains, ListsAttaining, IsMinimum, IsCopositive}
 use Rattle.unimodular_cone.specs.Paths.{Path}
 use Rattle.unimodular_cone.specs.Cones.{Matrix, value, unit_vectors, cone_at, Fits, WideEntry, IsFirstOver}
 use Rattle.unimodular_cone.specs.Tree.{Mode, Sign, Least, IsInTree, IsLow, IsFirstLowAt, IsFirstLow, IsFinalBound, IsOpen, IsFirstOpen, IsFirstOverBelow}
-
-abbrev pub coordinate : List ℕ → ℕ → ℤ
-coordinate x p = pos (slice_index_or x p 0)
-
-abbrev pub IsNonzero : ℕ → List ℕ → Type 0
-IsNonzero n x = (p : ℕ) × (p < n) × (coordinate x p ≢ pos 0)
-
-abbrev pub ComesBefore : List ℕ → List ℕ → Type 0
-ComesBefore [] y = ⊥
-ComesBefore (a ∷ x) [] = ⊥
-ComesBefore (a ∷ x) (b ∷ y) = (a < b) ⊎ ((a ≡ b) × ComesBefore x y)
-
-abbrev pub IsIncreasing : List (List ℕ) → Type 0
-IsIncreasing [] = Unit {0}
-IsIncreasing (x ∷ []) = Unit {0}
-IsIncreasing (x ∷ y ∷ rest) = ComesBefore x y × IsIncreasing (y ∷ rest)
-
-pub record Attains (n : ℕ) (q : Matrix) (m : ℤ) (x : List ℕ) : Type 0 where
-  pub size : length x ≡ n
-  pub nonzero : IsNonzero n x
-  pub value : form n q (coordinate x) ≡ m
-
-pub record ListsAttaining (n : ℕ) (q : Matrix) (m : ℤ) (vectors : List (List ℕ)) : Type 0 where
-  pub each : (x : List ℕ) → Contains vectors x → Attains n q m x
-  pub all : (x : List ℕ) → Attains n q m x → Contains vectors x
-  pub increasing : IsIncreasing vectors
-
-pub record IsMinimum (n : ℕ) (q : Matrix) (m : ℤ) (vectors : List (List ℕ)) : Type 0 where
-  pub positive : pos 1 ≤ℤ m
-  pub least : (x : List ℕ) → length x ≡ n → IsNonzero n x → m ≤ℤ form n q (coordinate x)
-  pub some : vectors ≢ []
-  pub lists : ListsAttaining n q m vectors
-
-abbrev pub IsCopositive : ℕ → Matrix → Type 0
-IsCopositive n q = (x : List ℕ) → length x ≡ n → pos 0 ≤ℤ form n q (coordinate x)
 
 pub data SearchAnswer : Type 0 where
   BoundWide : ℤ → SearchAnswer

@@ -17,13 +17,11 @@
 --     LiesIn n v x               x is a combination of the generators with nonnegative integer coefficients
 use Rattle.std.specs.Prelude.{Option, Some, None, ℕ, zero, suc, ℤ, pos, ◌+ℤ◌, ◌≤ℤ◌, ◌<ℤ◌, ◌<◌, ◌≤◌, ◌≡◌, ◌⊎◌, Bool, true, false, cond, eqb, ltb, [], ◌∷◌, nat_abs, ◌^◌, int_lt}
 use Rattle.exact_forms.specs.Forms.{bilinear, combination}
+pub use Rattle.exact_forms.specs.Copositive.{Matrix}
 use Rattle.exact_forms.specs.Slacks.{replaced, AreNonnegative}
 use Rattle.unimodular_cone.specs.Paths.{Path}
 pub use Rattle.unimodular_cone.specs.declared.refusal.WideEntry.{WideEntry}
 pub use Rattle.unimodular_cone.specs.declared.refusal.WideEntry.TheVariants.{Coordinate, Gram}
-
-abbrev pub Matrix : Type 0
-Matrix = ℕ → ℕ → ℤ
 
 abbrev pub Generators : Type 0
 Generators = ℕ → ℕ → ℤ
