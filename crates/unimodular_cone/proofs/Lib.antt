@@ -9,3 +9,4 @@ pub mod Unique
 pub mod AnswerUnique
 pub mod Orders
 pub mod Packing
+pub mod PackedOrder

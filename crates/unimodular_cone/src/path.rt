@@ -58,10 +58,8 @@ impl Path {
         ensures { result ≡ self ++ nat_eq side 1 ∷ [] }
     {
         let mut words = self.words;
-        if side == 1 {
-            // The digit past the end was 0.
-            words[usize::from(self.len / 64)] += 1 << (63 - self.len % 64);
-        }
+        // The digit past the end was 0.
+        words[usize::from(self.len / 64)] += u64::from(side) << (63 - self.len % 64);
         Path {
             words,
             len: self.len + 1,
@@ -73,11 +71,7 @@ impl Path {
         requires { k < length self.now }
         ensures { result ≡ digit_of (digit_at self.now k) }
     {
-        if (self.words[usize::from(k / 64)] >> (63 - k % 64)) & 1 == 1 {
-            1
-        } else {
-            0
-        }
+        ((self.words[usize::from(k / 64)] >> (63 - k % 64)) & 1) as u8
     }
 
     /// The order by place: by digits, a prefix first.
