@@ -1,11 +1,11 @@
 -- A child's Gram matrix by additions.
-use Rattle.std.specs.Prelude.{◌≡◌, ◌≢◌, ℕ, ◌<◌, ℤ, pos, ◌+ℤ◌, ◌*ℤ◌}
-use Rattle.std.proofs.Common.{arith, sym, ◌∙◌, ap, ap₂, refl}
+use Rattle.std.specs.Prelude.{◌≡◌, ◌≢◌, ℕ, ℤ, pos, ◌+ℤ◌, ◌*ℤ◌}
+use Rattle.std.proofs.Common.{arith, ◌∙◌, ap₂, refl}
 use Rattle.std.proofs.lemmas.Int.{ints}
 use Rattle.exact_forms.specs.Forms.{bilinear, IsSymmetric}
-use Rattle.exact_forms.proofs.Slacks.{same_or_not, replaced_here, replaced_other}
+use Rattle.exact_forms.proofs.Slacks.{replaced_here, replaced_other}
 use Rattle.exact_forms.proofs.Forms.{bilinear-add_left, bilinear-add_right, bilinear_symmetric}
-use Rattle.unimodular_cone.specs.Cones.{Matrix, Generators, gram, child, child_gram}
+use Rattle.unimodular_cone.specs.Cones.{Matrix, Generators, gram, child}
 
 -- ---- a child's Gram entries by additions
 pub gram_child_other : (n : ℕ) (q : Matrix) (v : Generators) (i j k l : ℕ) → k ≢ i → l ≢ i → gram n q (child v i j) k l ≡ gram n q v k l

@@ -1,5 +1,5 @@
 -- A path's digits in words, and back.
-use Rattle.std.specs.Prelude.{◌≡◌, ◌≢◌, ℕ, zero, suc, ◌<◌, ◌≤◌, ◌+◌, ◌-◌, ◌*◌, ◌/◌, ◌%◌, ◌^◌, nat_le, nat_eq, cond, Bool, true, false, List, [], ◌∷◌, ◌++◌, length, take, drop, slice_set, slice_index_or}
+use Rattle.std.specs.Prelude.{◌≡◌, ℕ, zero, suc, ◌<◌, ◌≤◌, ◌+◌, ◌-◌, ◌*◌, ◌/◌, ◌%◌, ◌^◌, nat_le, nat_eq, cond, Bool, true, false, List, [], ◌∷◌, ◌++◌, length, take, drop, slice_set, slice_index_or}
 use Rattle.std.proofs.Common.{arith, sym, ◌∙◌, ap, ap₂, refl, subst, length-append, length-drop}
 use Rattle.std.proofs.Math.Nat.{pow-suc, add-mod_left, mod-eq_of_lt, div-eq_of_lt, mul-add-div, mul-add-mod_self_right}
 use Rattle.std.proofs.lemmas.Nat.{div-mul-add, pow-add, pow_below}

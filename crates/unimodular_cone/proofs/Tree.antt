@@ -1,11 +1,11 @@
 -- The tree of a search: its paths, and the way of a combination down it.
-use Rattle.std.specs.Prelude.{◌≡◌, ◌≢◌, ℕ, zero, suc, ◌<◌, ◌≤◌, ◌+◌, ℤ, Bool, true, false, ◌⊎◌, Option, Some, None, [], ◌∷◌, ◌++◌, length}
+use Rattle.std.specs.Prelude.{◌≡◌, ◌≢◌, ℕ, zero, suc, ◌<◌, ◌≤◌, ◌+◌, ℤ, Bool, true, false, ◌⊎◌, Option, Some, [], ◌∷◌, ◌++◌, length}
 use Rattle.std.proofs.Common.{arith, sym, ◌∙◌, ap, refl, inl, inr, subst, append_assoc, length-append}
 use Rattle.exact_forms.specs.Slacks.{AreNonnegative}
 use Rattle.unimodular_cone.specs.Paths.{Path, IsAbove}
 use Rattle.unimodular_cone.specs.Cones.{Matrix, Generators, gram, child, child_at, next_cone, cone_from, cone_at, pair_of, unit_vectors, IsPair, LiesIn, Fits, WideEntry, IsFirstOver}
 use Rattle.unimodular_cone.specs.Tree.{CanSplit, IsInTree, HasWideChild}
-use Rattle.unimodular_cone.proofs.Pairs.{pair_of_some, pair_or_none}
+use Rattle.unimodular_cone.proofs.Pairs.{pair_of_some}
 use Rattle.unimodular_cone.proofs.Covers.{cone_from-append, lies_above, lies_in_some_child, root_has, row_range, apart}
 use Rattle.unimodular_cone.proofs.Bounded.{fits_or_first_over}
 

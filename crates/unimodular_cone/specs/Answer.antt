@@ -7,8 +7,7 @@
 --     IsSearchAnswer m n q d answer  the answer of the search of Q to depth d: the first of its six kinds that applies
 --
 -- The copositive minimum and its vectors are those of exact_forms.
-use Rattle.std.specs.Prelude.{ℕ, ℤ, pos, ◌≤ℤ◌, ◌<ℤ◌, ◌<◌, ◌-◌, ◌^◌, ◌≡◌, ◌≢◌, ◌⊎◌, List, [], ◌∷◌, length, slice_index_or}
-use Rattle.std.specs.List.{Contains}
+use Rattle.std.specs.Prelude.{ℕ, ℤ, pos, ◌≤ℤ◌, ◌<ℤ◌, ◌<◌, ◌-◌, ◌^◌, ◌≡◌, ◌⊎◌, List, [], length}
 pub use Rattle.exact_forms.specs.Vectors.{coordinate, IsNonzero, ComesBefore, IsIncreasing}
 pub use Rattle.exact_forms.specs.Copositive.{Attains, ListsAttaining, IsMinimum, IsCopositive}
 use Rattle.unimodular_cone.specs.Paths.{Path}

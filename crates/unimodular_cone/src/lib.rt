@@ -8,4 +8,4 @@ mod refusal;
 
 pub use mode::Mode;
 pub use path::Path;
-pub use refusal::{WideEntry};
+pub use refusal::{ConeFail, WideAt, WideEntry};

@@ -10,7 +10,7 @@ use std::marker::Model;
 /// root on.
 ///
 /// The digits are packed into four words, the first digit most significant, with 0 past the end.
-#[derive(Clone, Copy)]
+#[derive(Clone, Copy, Debug, PartialEq, Eq)]
 pub struct Path {
     words: [u64; 4],
     len: u8,

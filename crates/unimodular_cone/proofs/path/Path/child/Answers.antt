@@ -1,5 +1,5 @@
-use Rattle.std.specs.Prelude.{◌<◌, ◌^◌, ◌≡◌, ◌/◌, length}
-use Rattle.std.proofs.Common.{arith, ap, ap₂, ◌∙◌}
+use Rattle.std.specs.Prelude.{◌<◌, length}
+use Rattle.std.proofs.Common.{arith, ap}
 use Rattle.unimodular_cone.proofs.Packing.{len_is, pushed_fits, pushed_packed, pushed_digits}
 use Rattle.unimodular_cone.proofs.path.Path.child.Goals as goal
 

@@ -1,4 +1,4 @@
-use Rattle.std.proofs.Common.{arith, [], ap}
+use Rattle.std.proofs.Common.{arith, []}
 use Rattle.unimodular_cone.specs.PackedDigits.{packed, binary}
 use Rattle.unimodular_cone.proofs.Packing.{is_packed}
 use Rattle.unimodular_cone.proofs.path.Path.root.Goals as goal
