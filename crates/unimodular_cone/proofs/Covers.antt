@@ -12,6 +12,7 @@ use Rattle.exact_forms.proofs.Forms.{form_same, bilinear_symmetric}
 use Rattle.exact_forms.proofs.Slacks.{same_or_not, replaced_here, replaced_other, closed_bound, closed_at_zero, closed_equality, some_nonzero, child_zero_covers, child_coefficients_nonnegative, IsUnit}
 use Rattle.unimodular_cone.proofs.Pairs.{pair_of_some, pair_of_none}
 use Rattle.unimodular_cone.specs.Paths.{Path}
+pub use Rattle.unimodular_cone.specs.Theorems.{IsNonzeroBelow}
 use Rattle.unimodular_cone.specs.Cones.{Matrix, Generators, gram, value, child, child_at, next_cone, cone_from, pair_of, unit_vectors, IsPair, LiesIn}
 
 pub total_ℤ : (x y : ℤ) → (x ≤ℤ y) ⊎ (y ≤ℤ x)
@@ -28,6 +29,12 @@ lies_in_first n v x i j li lj ne l le = record {
   nonnegative = child_coefficients_nonnegative n l.coefficients i j l.nonnegative le;
   same = λ p lp. child_zero_covers n v l.coefficients i j p li lj ne ∙ l.same p lp;
 }
+
+pub combination_lies_in_first : (n : ℕ) (v : Generators) (a : ℕ → ℤ) (i j : ℕ) → i < n → j < n → i ≢ j → AreNonnegative n a → a i ≤ℤ a j → LiesIn n (child v i j) (combination n a v)
+combination_lies_in_first n v a i j li lj ne nonneg le = lies_in_first n v (combination n a v) i j li lj ne (record { coefficients = a; nonnegative = nonneg; same = λ p lp. refl }) le
+
+pub one_is_positive : (b : ℤ) → pos 1 ≤ℤ b → pos 0 ≤ℤ b
+one_is_positive b h = omega (arith, ints)
 
 pub lies_in_some_child : (n : ℕ) (v : Generators) (x : ℕ → ℤ) (i j : ℕ) → i < n → j < n → i ≢ j → LiesIn n v x → LiesIn n (child v i j) x ⊎ LiesIn n (child v j i) x
 lies_in_some_child n v x i j li lj ne l = by (total_ℤ (l.coefficients i) (l.coefficients j))
@@ -104,9 +111,6 @@ root_has n x nonneg = record { coefficients = x; nonnegative = nonneg; same = sa
         ∙ times_one (x p)
 
 -- ---- values in a closed cone
-abbrev pub IsNonzeroBelow : ℕ → (ℕ → ℤ) → Type 0
-IsNonzeroBelow n x = (p : ℕ) × (p < n) × (x p ≢ pos 0)
-
 nonzero_coefficients : (n : ℕ) (v : Generators) (x : ℕ → ℤ) (l : LiesIn n v x) → IsNonzeroBelow n x → SomeNonzero n l.coefficients
 nonzero_coefficients n v x l (p, lp, ne) = some_nonzero n l.coefficients v p (λ e. ne (sym (l.same p lp) ∙ e))
 

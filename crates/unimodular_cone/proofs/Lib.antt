@@ -10,3 +10,5 @@ pub mod AnswerUnique
 pub mod Orders
 pub mod Packing
 pub mod PackedOrder
+pub mod ShownLaws
+pub mod PartSlack

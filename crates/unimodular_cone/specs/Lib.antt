@@ -3,3 +3,5 @@ pub mod Cones
 pub mod Tree
 pub mod Answer
 pub mod PackedDigits
+pub mod Shown
+pub mod Theorems

@@ -2,10 +2,19 @@
 //! search over their tree answers.
 #![tactic(auto)]
 
+mod bound_test;
+mod cone_read;
+mod law;
 mod mode;
 mod path;
 mod refusal;
 
+pub use bound_test::{closed, least_value};
+pub use cone_read::ConeRead;
+pub use law::{
+    at_most_one_answer, at_most_one_final_bound, at_most_one_first_low, at_most_one_first_open,
+    children_cover, closed_bounds, copositive_holds, found_is_minimum, low_has_its_value,
+};
 pub use mode::Mode;
 pub use path::Path;
 pub use refusal::{ConeFail, WideAt, WideEntry};
