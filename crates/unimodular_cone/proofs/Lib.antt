@@ -12,3 +12,4 @@ pub mod Packing
 pub mod PackedOrder
 pub mod ShownLaws
 pub mod PartSlack
+pub mod BestPairs

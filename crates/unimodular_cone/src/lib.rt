@@ -6,6 +6,7 @@ mod bound_test;
 mod cone_read;
 mod law;
 mod mode;
+mod pair_rule;
 mod path;
 mod refusal;
 
@@ -16,5 +17,6 @@ pub use law::{
     children_cover, closed_bounds, copositive_holds, found_is_minimum, low_has_its_value,
 };
 pub use mode::Mode;
+pub use pair_rule::pair;
 pub use path::Path;
 pub use refusal::{ConeFail, WideAt, WideEntry};
