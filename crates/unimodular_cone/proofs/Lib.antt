@@ -13,3 +13,4 @@ pub mod PackedOrder
 pub mod ShownLaws
 pub mod PartSlack
 pub mod BestPairs
+pub mod Mediants

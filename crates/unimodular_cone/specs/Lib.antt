@@ -4,5 +4,6 @@ pub mod Tree
 pub mod Answer
 pub mod PackedDigits
 pub mod BestPair
+pub mod Mediant
 pub mod Shown
 pub mod Theorems

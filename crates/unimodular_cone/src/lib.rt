@@ -5,6 +5,7 @@
 mod bound_test;
 mod cone_read;
 mod law;
+mod mediant;
 mod mode;
 mod pair_rule;
 mod path;
