@@ -19,3 +19,4 @@ pub mod Fields
 pub mod RowSet
 pub mod LimitsSame
 pub mod Replaced
+pub mod ShownAt
