@@ -20,3 +20,4 @@ pub mod RowSet
 pub mod LimitsSame
 pub mod Replaced
 pub mod ShownAt
+pub mod RootCopies

@@ -1,7 +1,6 @@
 //! Cones that keep their numbers inline.
 
-ghost use Rattle.std.specs.Prelude.{◌≡◌, ◌≢◌, ◌≤◌, ◌<◌, ◌-◌, ◌+◌, length, nat_eq, IfOk, IfErr};
-ghost use Rattle.exact_forms.specs.Triangles.{triangle};
+ghost use Rattle.std.specs.Prelude.{◌≡◌, ◌≢◌, ◌≤◌, ◌<◌, ◌-◌, length, nat_eq, IfOk, IfErr};
 ghost use Rattle.unimodular_cone.specs.Shown.{IsWithinLimits, IsChild, IsFirstWide, IsWideWhere};
 ghost use Rattle.unimodular_cone.specs.Replacement.{IsChildWith, IsFirstWideWith, IsRowSet};
 
@@ -10,6 +9,7 @@ use std::marker::Model;
 use crate::cone_read::ConeRead;
 use crate::mediant::{first_wide, mediant_coordinates, mediant_row};
 use crate::path::Path;
+use crate::place::place_of;
 use crate::refusal::{ConeFail, WideAt};
 
 /// A cone: its path, n generators of n coordinates each, and their Gram matrix, all within their limits.
@@ -115,15 +115,4 @@ fn set_row(gram: &mut [i128; 36], row: &[i128; 8], r: u8, n: u8)
     for k in 0..n {
         gram[place_of(r.max(k), r.min(k))] = row[usize::from(k)];
     }
-}
-
-/// Where the entry at a row and a column, which count from 0, stands in the lower triangle.
-fn place_of(row: u8, column: u8) -> usize
-    requires below { column ≤ row }
-    requires small { row < 8 }
-    ensures place { result ≡ triangle row + column }
-    ensures inside { result < 36 }
-{
-    let row = usize::from(row);
-    row * (row + 1) / 2 + usize::from(column)
 }

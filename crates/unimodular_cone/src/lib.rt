@@ -10,7 +10,9 @@ mod mediant;
 mod mode;
 mod pair_rule;
 mod path;
+mod place;
 mod refusal;
+mod root_numbers;
 
 pub use bound_test::{closed, least_value};
 pub use cone::{Cone, child};
