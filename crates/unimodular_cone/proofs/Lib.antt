@@ -21,3 +21,5 @@ pub mod LimitsSame
 pub mod Replaced
 pub mod ShownAt
 pub mod RootCopies
+pub mod Roots
+pub mod Ways
