@@ -2,7 +2,7 @@
 
 ghost use Rattle.std.specs.Prelude.{◌≡◌, ◌≢◌, ◌≤◌, ◌<◌, ◌-◌, [], length, nat_eq, None, IfOk, IfErr};
 ghost use Rattle.symmetric_matrix.specs.Symmetric.{entry};
-ghost use Rattle.unimodular_cone.specs.Shown.{IsWithinLimits, IsConeAt, IsChild, IsFirstWide, IsFirstWideAt, IsReachable, IsWideWhere, NamesPair, IsNext, IsFirstWideNext};
+ghost use Rattle.unimodular_cone.specs.Shown.{IsWithinLimits, IsConeAt, IsChild, IsFirstWide, IsFirstWideAt, IsReachable, IsWideWhere, NamesPair, ReachesChild, IsNext, IsFirstWideNext};
 ghost use Rattle.unimodular_cone.specs.Replacement.{IsChildWith, IsFirstWideWith, IsRowSet};
 
 use std::marker::Model;
@@ -95,12 +95,26 @@ pub fn child(c: &Cone, i: u8, j: u8, side: u8) -> Result<Cone, ConeFail>
     ensures made { IfOk result (IsChild c.now (i - 1) (j - 1) (nat_eq side 1)) }
     ensures fits { IfOk result IsWithinLimits }
     ensures wide { IfErr result (IsWideWhere (IsFirstWide c.now (i - 1) (j - 1) (nat_eq side 1))) }
+    ensures reached { ReachesChild c.now (i - 1) (j - 1) (nat_eq side 1) result }
+{
+    child_on(c, i - 1, j - 1, side)
+}
+
+/// The child on a side of two generators that count from 0.
+fn child_on(c: &Cone, i: u8, j: u8, side: u8) -> Result<Cone, ConeFail>
+    requires order { i < j }
+    requires last { j < c.now.size }
+    requires digit { side < 2 }
+    requires room { length c.now.path < 200 }
+    ensures made { IfOk result (IsChild c.now i j (nat_eq side 1)) }
+    ensures fits { IfOk result IsWithinLimits }
+    ensures wide { IfErr result (IsWideWhere (IsFirstWide c.now i j (nat_eq side 1))) }
 {
     let path = c.path.child(side);
     if side == 0 {
-        child_with(c, i - 1, j - 1, path)
+        child_with(c, i, j, path)
     } else {
-        child_with(c, j - 1, i - 1, path)
+        child_with(c, j, i, path)
     }
 }
 

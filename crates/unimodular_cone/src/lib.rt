@@ -13,6 +13,8 @@ mod path;
 mod place;
 mod refusal;
 mod root_numbers;
+#[cfg(test)]
+mod tests;
 
 pub use bound_test::{closed, least_value};
 pub use cone::{Cone, at_path, child, root};
