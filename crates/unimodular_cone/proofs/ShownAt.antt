@@ -8,10 +8,10 @@ use Rattle.unimodular_cone.specs.declared.refusal.WideAt.{WideAt}
 use Rattle.unimodular_cone.specs.declared.refusal.ConeFail.{ConeFail}
 use Rattle.unimodular_cone.specs.declared.refusal.ConeFail.TheVariants.{Wide, OutOfMemory}
 use Rattle.unimodular_cone.specs.Paths.{Path}
-use Rattle.unimodular_cone.specs.Cones.{Matrix, Generators, gram, value, cone_at, pair_of, IsPair, child, child_on, child_gram, child_gram_on, Fits, IsFirstOver}
+use Rattle.unimodular_cone.specs.Cones.{Matrix, Generators, gram, value, cone_at, pair_of, IsPair, child, child_on, child_gram, child_gram_on, FitsLimits, Fits, IsFirstOver}
 use Rattle.unimodular_cone.specs.Tree.{CanSplit, IsClosedAt, IsFirstOverBelow}
 use Rattle.unimodular_cone.specs.Answer.{IsLeastDiagonal}
-use Rattle.unimodular_cone.specs.Shown.{ShownCone, shown_gram, shown_generators, IsConeOf, IsConeAt, IsChild, IsFirstWide, FitsOnSide, FitsOnBothSides, IsFirstWideBelow, IsWideWhere, ReachesChild, NamesPair}
+use Rattle.unimodular_cone.specs.Shown.{ShownCone, shown_gram, shown_generators, IsWithinLimits, IsConeOf, IsConeAt, IsChild, IsFirstWide, FitsOnSide, FitsOnBothSides, IsFirstWideBelow, IsWideWhere, ReachesChild, NamesPair}
 use Rattle.unimodular_cone.proofs.Pairs.{pair_is, pair_same, none_is}
 use Rattle.unimodular_cone.proofs.Additions.{gram-child, child_gram_other, child_gram_row, child_gram_column, child_gram_square, child_row, child_row_other}
 use Rattle.unimodular_cone.proofs.Tree.{cone_at-side}
@@ -80,6 +80,9 @@ module _ (n : ℕ) (q : Matrix) (path : Path) (c : ShownCone) (h : IsConeAt n q 
 
   pub closed_there : (b : ℤ) → IsClosedAt n q path b → IsClosed c.size (shown_gram c) b
   closed_there b closed = subst (λ (m : ℕ). IsClosed m (shown_gram c) b) (sym h.cone.size) (closed_same n (gram n q (cone_at n q path)) (shown_gram c) b (λ k l lk ll. sym (h.cone.gram_is k l lk ll)) closed)
+
+  pub fits_at : IsWithinLimits c → Fits n q (cone_at n q path)
+  fits_at w = fits_same n (shown_generators c) (cone_at n q path) (shown_gram c) (gram n q (cone_at n q path)) (record { generators = h.cone.generators; gram_is = h.cone.gram_is }) (subst (λ (m : ℕ). FitsLimits m (shown_generators c) (shown_gram c)) h.cone.size w.fits)
 
   pub value_at : (k : ℕ) → k < n → shown_gram c k k ≡ value n q (cone_at n q path) k
   value_at k lk = h.cone.gram_is k k lk lk

@@ -17,7 +17,9 @@ use crate::{Cone, ConeFail, ConeRead, Path, WideAt, WideEntry, at_path, child, c
 fn matrix(rt: &impl Abort, alloc: Global, a: i128, b: i128, c: i128) -> Result<SymInt, Fail>
     ensures { IfOk result (λ q. q.size ≡ 2) }
 {
-    assert!(rt; a > i128::MIN && b > i128::MIN && c > i128::MIN);
+    assert!(rt; a > i128::MIN);
+    assert!(rt; b > i128::MIN);
+    assert!(rt; c > i128::MIN);
     Ok(SymInt::from_lower(alloc, 2, &[a, b, c])?)
 }
 
