@@ -1,8 +1,6 @@
 //! Cones on the paths of small matrices, with numbers that were worked out by hand.
 
-ghost use Rattle.std.specs.Prelude.{◌≡◌, IfOk};
-ghost use Rattle.symmetric_matrix.specs.Symmetric.{entry};
-ghost use Rattle.unimodular_cone.specs.Shown.{IsConeAt};
+ghost use Rattle.std.specs.Prelude.{◌≡◌, ◌≤◌, ◌^◌, nat_abs, IfOk};
 
 use std::alloc::Global;
 use std::cmp::Ordering;
@@ -14,12 +12,12 @@ use symmetric_matrix::SymInt;
 use crate::{Cone, ConeFail, ConeRead, Path, WideAt, WideEntry, at_path, child, children_fit, closed, least_value, pair, root};
 
 /// The matrix `a b / b c`.
-fn matrix(rt: &impl Abort, alloc: Global, a: i128, b: i128, c: i128) -> Result<SymInt, Fail>
+fn matrix(alloc: Global, a: i128, b: i128, c: i128) -> Result<SymInt, Fail>
+    requires first { nat_abs a ≤ 2 ^ 126 }
+    requires beside { nat_abs b ≤ 2 ^ 126 }
+    requires last { nat_abs c ≤ 2 ^ 126 }
     ensures { IfOk result (λ q. q.size ≡ 2) }
 {
-    assert!(rt; a > i128::MIN);
-    assert!(rt; b > i128::MIN);
-    assert!(rt; c > i128::MIN);
     Ok(SymInt::from_lower(alloc, 2, &[a, b, c])?)
 }
 
@@ -70,7 +68,7 @@ struct Row {
 
 #[test]
 fn cones_on_the_paths_of_a_matrix(rt: HostRuntime) -> Result<(), Fail> {
-    let q = matrix(&rt, rt.alloc(), 2, -3, 6)?;
+    let q = matrix(rt.alloc(), 2, -3, 6)?;
     let rows = [
         Row {
             digits: &[1],
@@ -115,12 +113,12 @@ const LARGEST: i128 = 1267650600228229401496703205376;
 #[test]
 fn entries_over_their_limits(rt: HostRuntime) -> Result<(), Fail> {
     let entry = WideEntry::Gram { row: 1, column: 1 };
-    let cone = root(&matrix(&rt, rt.alloc(), LARGEST, -1, 4)?)?;
+    let cone = root(&matrix(rt.alloc(), LARGEST, -1, 4)?)?;
     assert_eq!(rt; cone.n(), 2);
     // The entry of child 0 at (1, 1) is 2^100 + 2.
     let path = Path::root().child(0);
     assert_eq!(rt; children_fit(&cone, 1, 2), Some(WideAt { path, entry }));
-    let wide = root(&matrix(&rt, rt.alloc(), LARGEST + 1, 0, 0)?);
+    let wide = root(&matrix(rt.alloc(), LARGEST + 1, 0, 0)?);
     match wide {
         Err(fail) => {
             let path = Path::root();
