@@ -1,6 +1,6 @@
 -- A cone that shows the cone at a path: its pair, its slacks, its values and its children are those of the path.
-use Rattle.std.specs.Prelude.{◌≡◌, ◌≢◌, ◌⊎◌, ℕ, suc, ◌<◌, ◌≤◌, ◌-◌, ℤ, pos, ◌+ℤ◌, ◌-ℤ◌, ◌≤ℤ◌, cond, eqb, Bool, true, false, Option, Some, None, Result, Ok, Err, IfOk, IfErr, [], ◌∷◌, ◌++◌, length}
-use Rattle.std.proofs.Common.{arith, sym, ◌∙◌, ap, ap₂, refl, inl, inr, subst}
+use Rattle.std.specs.Prelude.{◌≡◌, ◌≢◌, ◌⊎◌, ℕ, ◌<◌, ℤ, pos, ◌+ℤ◌, ◌-ℤ◌, ◌≤ℤ◌, cond, eqb, Bool, true, false, Some, None, Result, Ok, Err, IfOk, IfErr, [], ◌∷◌, ◌++◌}
+use Rattle.std.proofs.Common.{arith, sym, ◌∙◌, ap, ap₂, inl, inr, subst}
 use Rattle.exact_forms.specs.Slacks.{slack, shortfall, IsClosed}
 use Rattle.exact_forms.proofs.Sums.{sum_to_same}
 use Rattle.exact_forms.proofs.Slacks.{same_or_not}
@@ -10,10 +10,9 @@ use Rattle.unimodular_cone.specs.declared.refusal.ConeFail.TheVariants.{Wide, Ou
 use Rattle.unimodular_cone.specs.Paths.{Path}
 use Rattle.unimodular_cone.specs.Cones.{Matrix, Generators, gram, value, cone_at, pair_of, IsPair, child, child_on, child_gram, child_gram_on, FitsLimits, Fits, IsFirstOver}
 use Rattle.unimodular_cone.specs.Tree.{CanSplit, IsClosedAt, IsFirstOverBelow}
-use Rattle.unimodular_cone.specs.Answer.{IsLeastDiagonal}
 use Rattle.unimodular_cone.specs.Shown.{ShownCone, shown_gram, shown_generators, IsWithinLimits, IsConeOf, IsConeAt, IsChild, IsFirstWide, FitsOnSide, FitsOnBothSides, IsFirstWideBelow, IsWideWhere, ReachesChild, NamesPair}
 use Rattle.unimodular_cone.proofs.Pairs.{pair_is, pair_same, none_is}
-use Rattle.unimodular_cone.proofs.Additions.{gram-child, child_gram_other, child_gram_row, child_gram_column, child_gram_square, child_row, child_row_other}
+use Rattle.unimodular_cone.proofs.Additions.{gram-child, child_row, child_row_other}
 use Rattle.unimodular_cone.proofs.Tree.{cone_at-side}
 use Rattle.unimodular_cone.proofs.LimitsSame.{SameBelow, fits_same, first_over_same}
 

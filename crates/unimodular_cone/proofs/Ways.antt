@@ -1,10 +1,9 @@
 -- The way from the root to a path.
-use Rattle.std.specs.Prelude.{◌≡◌, ◌≢◌, ◌⊎◌, ℕ, suc, ◌<◌, ◌≤◌, ◌+◌, Bool, true, false, nat_eq, Option, Some, None, [], ◌∷◌, ◌++◌, length, take}
+use Rattle.std.specs.Prelude.{◌≡◌, ◌≢◌, ◌⊎◌, ℕ, ◌<◌, ◌≤◌, ◌+◌, Bool, true, false, nat_eq, Option, Some, None, [], ◌∷◌, ◌++◌, length, take}
 use Rattle.std.proofs.Common.{arith, sym, ◌∙◌, ap, refl, inl, inr, subst, length-take-le, take_all}
 use Rattle.std.proofs.lemmas.List.{take_more}
 use Rattle.unimodular_cone.specs.declared.refusal.ConeFail.{ConeFail}
 use Rattle.unimodular_cone.specs.declared.refusal.ConeFail.TheVariants.{Wide, OutOfMemory}
-use Rattle.unimodular_cone.specs.declared.refusal.WideAt.{WideAt}
 use Rattle.unimodular_cone.specs.Paths.{Path, IsAbove, digit_of, digit_at}
 use Rattle.unimodular_cone.specs.Cones.{Matrix, unit_vectors, gram, cone_from, cone_at, pair_of, IsPair, Fits, IsFirstOver}
 use Rattle.unimodular_cone.specs.Tree.{CanSplit, IsInTree}

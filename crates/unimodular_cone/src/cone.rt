@@ -5,9 +5,6 @@ ghost use Rattle.symmetric_matrix.specs.Symmetric.{entry};
 ghost use Rattle.unimodular_cone.specs.Shown.{IsWithinLimits, IsConeAt, IsChild, IsFirstWide, IsFirstWideAt, IsReachable, IsWideWhere, NamesPair, ReachesChild, IsNext, IsFirstWideNext};
 ghost use Rattle.unimodular_cone.specs.Replacement.{IsChildWith, IsFirstWideWith, IsRowSet};
 
-use std::marker::Model;
-use symmetric_matrix::SymInt;
-
 use crate::cone_read::ConeRead;
 use crate::mediant::{first_wide, mediant_coordinates, mediant_row};
 use crate::pair_rule::pair;
@@ -15,6 +12,8 @@ use crate::path::Path;
 use crate::place::place_of;
 use crate::refusal::{ConeFail, WideAt};
 use crate::root_numbers::{first_wide_of, lower_of, unit_rows};
+use std::marker::Model;
+use symmetric_matrix::SymInt;
 
 /// A cone: its path, n generators of n coordinates each, and their Gram matrix, all within their limits.
 ///

@@ -2,14 +2,15 @@
 
 ghost use Rattle.std.specs.Prelude.{◌≡◌, ◌≤◌, ◌^◌, nat_abs, IfOk};
 
+use crate::{
+    Cone, ConeFail, ConeRead, Path, WideAt, WideEntry, at_path, child, children_fit, closed,
+    least_value, pair, root,
+};
 use std::alloc::Global;
 use std::cmp::Ordering;
 use std::process::Abort;
 use std::test::Fail;
-
 use symmetric_matrix::SymInt;
-
-use crate::{Cone, ConeFail, ConeRead, Path, WideAt, WideEntry, at_path, child, children_fit, closed, least_value, pair, root};
 
 /// The matrix `a b / b c`.
 fn matrix(alloc: Global, a: i128, b: i128, c: i128) -> Result<SymInt, Fail>
@@ -143,5 +144,8 @@ fn orders_of_paths(rt: HostRuntime) {
         assert_eq!(rt; left.by_place(&right), place);
         assert_eq!(rt; left.by_depth(&right), depth);
     }
-    assert_eq!(rt; (one_zero.len(), one_zero.digit(0), one_zero.digit(1)), (2, 1, 0));
+    assert_eq!(rt;
+        (one_zero.len(), one_zero.digit(0), one_zero.digit(1)),
+        (2, 1, 0)
+    );
 }

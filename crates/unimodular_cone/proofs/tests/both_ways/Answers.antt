@@ -1,6 +1,5 @@
-use Rattle.std.specs.Prelude.{◌-◌, nat_eq, Bool}
+use Rattle.std.specs.Prelude.{◌-◌}
 use Rattle.std.proofs.Common.{subst}
-use Rattle.symmetric_matrix.specs.Symmetric.{entry}
 use Rattle.unimodular_cone.specs.Shown.{NamesPair}
 use Rattle.unimodular_cone.proofs.ShownAt.{child_at_path}
 use Rattle.unimodular_cone.proofs.Ways.{reachable_more}

@@ -1,4 +1,4 @@
-use Rattle.std.specs.Prelude.{◌≡◌, ℕ, zero, suc, ◌<◌, ◌≤◌, ◌^◌, ℤ, pos, FitsSigned, nat_abs, [], ◌∷◌, length, slice_index_or}
+use Rattle.std.specs.Prelude.{ℕ, zero, suc, ◌<◌, ◌≤◌, ◌^◌, ℤ, pos, FitsSigned, nat_abs, [], ◌∷◌, length, slice_index_or}
 use Rattle.std.specs.Int.{w128}
 use Rattle.std.proofs.Common.{arith, refl, to_z, of_z}
 use Rattle.std.proofs.lemmas.Int.{ints, to_z-of_z}
