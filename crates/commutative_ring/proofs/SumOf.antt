@@ -85,6 +85,15 @@ module _ {A : Type 0} (R : CommutativeRing A) where
   pub total_more : (n : ℕ) (f : ℕ → A) → total (n + 1) f ≡ R.add (total n f) (f n)
   total_more n f = let e : n + 1 ≡ suc n = omega arith in ap (λ (k : ℕ). total k f) e ∙ total-suc n f
 
+  -- the first term apart
+  pub total_head : (n : ℕ) (f : ℕ → A) → total (suc n) f ≡ R.add (f 0) (total n (λ k. f (suc k)))
+  total_head zero f = total-suc 0 f ∙ R.add_comm (total 0 f) (f 0) ∙ ap (λ w. R.add (f 0) w) (total-zero f ∙ sym (total-zero (λ k. f (suc k))))
+  total_head (suc n) f =
+      total-suc (suc n) f
+      ∙ ap (λ w. R.add w (f (suc n))) (total_head n f)
+      ∙ R.add_assoc (f 0) (total n (λ k. f (suc k))) (f (suc n))
+      ∙ ap (λ w. R.add (f 0) w) (sym (total-suc n (λ k. f (suc k))))
+
   pub total-mul : (c : A) (n : ℕ) (f : ℕ → A) → R.mul (total n f) c ≡ total n (λ k. R.mul (f k) c)
   total-mul c n f = R.mul_comm (total n f) c ∙ mul-total c n f ∙ total_same n _ _ (λ k l. R.mul_comm c (f k))
 

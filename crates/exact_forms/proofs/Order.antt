@@ -1,6 +1,7 @@
 -- The order of ℤ and its products.
-use Rattle.std.specs.Prelude.{◌≢◌, zero, suc, ℤ, pos, negsuc, ◌*ℤ◌, ◌-ℤ◌, ◌≤ℤ◌, ◌⊎◌}
+use Rattle.std.specs.Prelude.{◌≡◌, ◌≢◌, zero, suc, ℤ, pos, negsuc, ◌*ℤ◌, ◌-ℤ◌, ◌≤ℤ◌, ◌⊎◌}
 use Rattle.std.proofs.Common.{arith, refl, inl, inr}
+use lib.IntN.{*ℤ_comm}
 use Rattle.std.proofs.lemmas.Int.{ints}
 use Rattle.commutative_ring.proofs.Expand.{expand, linear}
 
@@ -43,3 +44,29 @@ le_of_mul_le_left c x y h k = by (split x y)
       | inl e ↦ e
       | inr d ↦ absurd (let p : pos 1 ≤ℤ (c *ℤ x -ℤ c *ℤ y) = simp expand at (positive_mul c (x -ℤ y) h d) in omega (arith, linear))
     ]
+
+-- ---- factors
+pub no_zero_divisor : (x y : ℤ) → x ≢ pos 0 → x *ℤ y ≡ pos 0 → y ≡ pos 0
+no_zero_divisor (pos zero) y ne e = absurd (ne refl)
+no_zero_divisor (pos (suc a)) (pos zero) ne e = refl
+no_zero_divisor (pos (suc a)) (pos (suc b)) ne e = absurd (omega (arith, ints))
+no_zero_divisor (pos (suc a)) (negsuc b) ne e = absurd (omega (arith, ints))
+no_zero_divisor (negsuc a) (pos zero) ne e = refl
+no_zero_divisor (negsuc a) (pos (suc b)) ne e = absurd (omega (arith, ints))
+no_zero_divisor (negsuc a) (negsuc b) ne e = absurd (omega (arith, ints))
+
+pub positive_factor : (g x : ℤ) → pos 1 ≤ℤ g → pos 1 ≤ℤ (g *ℤ x) → pos 1 ≤ℤ x
+positive_factor (pos g) (pos zero) h k = absurd (omega (arith, ints))
+positive_factor (pos g) (pos (suc x)) h k = omega (arith, ints)
+positive_factor (pos g) (negsuc x) h k = absurd (omega (arith, ints))
+positive_factor (negsuc g) x h k = absurd (omega (arith, ints))
+
+-- a positive factor of both sides
+pub cancel_positive : (g x y : ℤ) → pos 1 ≤ℤ g → g *ℤ x ≡ g *ℤ y → x ≡ y
+cancel_positive g x y h e =
+    let d : g *ℤ (x -ℤ y) ≡ pos 0 = apart g x y e in
+    let z : x -ℤ y ≡ pos 0 = no_zero_divisor g (x -ℤ y) (λ (s : g ≡ pos 0). absurd (omega (arith, ints))) d in
+    omega (arith, linear)
+  where
+    apart : (g x y : ℤ) → g *ℤ x ≡ g *ℤ y → g *ℤ (x -ℤ y) ≡ pos 0
+    apart g x y e = simp expand (omega (arith, linear, *ℤ_comm g x, *ℤ_comm g y))

@@ -1,5 +1,5 @@
 -- Laws of rational numbers.
-use Rattle.std.specs.Prelude.{◌≡◌, ◌≢◌, ℕ, zero, suc, ◌*◌, ◌/◌, ◌<◌, ℤ, pos, negsuc, neg_ℤ, nat_abs, ◌+ℤ◌, ◌-ℤ◌, ◌*ℤ◌, T, ltb, eqb, [], ◌∷◌}
+use Rattle.std.specs.Prelude.{◌≡◌, ◌≢◌, ℕ, zero, suc, ◌*◌, ◌/◌, ◌<◌, ℤ, pos, negsuc, neg_ℤ, nat_abs, ◌+ℤ◌, ◌-ℤ◌, ◌*ℤ◌, T, ltb, eqb, List, [], ◌∷◌}
 use Rattle.std.proofs.Common.{arith, sym, ◌∙◌, ap, ap₂, refl, subst, ltb→lt, eqb→eq, mul-pos}
 use Rattle.std.proofs.lemmas.Int.{ints, unsigned_abs-mul}
 use lib.Dec.{T_prop}
@@ -12,8 +12,8 @@ use Rattle.commutative_ring.proofs.Gcd.{dvd_of_dvd-mul}
 use Rattle.commutative_ring.proofs.Lowest.{divided, part_times, above_times}
 use Rattle.commutative_ring.proofs.Laws.{neg_mul_ℤ}
 use Rattle.commutative_ring.proofs.Expand.{expand, linear}
-use Rattle.commutative_ring.proofs.Ring.{ring, ring_in, CommutativeRing, num, ◌⊕◌, ◌⊗◌, ◌⊖◌, neg, v0, v1, v2, v3, v4, v5}
-use Rattle.exact_forms.specs.Rational.{Rational, ratio, whole, ◌+ℚ◌, ◌*ℚ◌, neg_ℚ, inverse}
+use Rattle.commutative_ring.proofs.Ring.{ring, ring_in, normal, value, at, CommutativeRing, Expr, num, ◌⊕◌, ◌⊗◌, neg, v0, v1, v2, v3, v4, v5}
+use Rattle.exact_forms.specs.Rational.{Rational, ratio, whole, ◌+ℚ◌, ◌*ℚ◌, ◌/ℚ◌, neg_ℚ, inverse}
 
 -- the two numbers decide
 pub same_parts : (x y : Rational) → x.num ≡ y.num → x.den ≡ y.den → x ≡ y
@@ -250,6 +250,10 @@ rational_ring = record {
   of_int_mul = whole-mul;
 }
 
+-- an identity of polynomials over ℚ
+pub ring_ℚ : (xs : List Rational) (e f : Expr) → normal e ≡ normal f → value rational_ring (at rational_ring xs) e ≡ value rational_ring (at rational_ring xs) f
+ring_ℚ xs e f same_form = ring_in rational_ring xs e f same_form
+
 -- 1/x times x
 pub mul-inverse : (x : Rational) → x ≢ whole (pos 0) → x *ℚ inverse x.num x.den ≡ whole (pos 1)
 unfolding whole inverse
@@ -268,6 +272,18 @@ mul-inverse x ne = by x.num refl
         ∙ ratio_same _ _ (x.den * suc n) 1 (mul-pos (den_positive x) (omega arith)) one_positive
         (ring (pos (suc n) ∷ pos x.den ∷ []) (neg v0 ⊗ neg v1 ⊗ num (pos 1)) (num (pos 1) ⊗ (v1 ⊗ v0)) refl)
 
--- ((x + y) - y) + z = x + z, as an example
-sample : (x y z : Rational) → ((x +ℚ y) +ℚ neg_ℚ y) *ℚ z ≡ z *ℚ x
-sample x y z = ring_in rational_ring (x ∷ y ∷ z ∷ []) ((v0 ⊕ v1 ⊖ v1) ⊗ v2) (v2 ⊗ v0) refl
+-- x/y times y
+pub div-mul : (x y : Rational) → y ≢ whole (pos 0) → (x /ℚ y) *ℚ y ≡ x
+unfolding ◌/ℚ◌
+div-mul x y ne =
+    ring_ℚ (x ∷ inverse y.num y.den ∷ y ∷ []) (v0 ⊗ v1 ⊗ v2) ((v2 ⊗ v1) ⊗ v0) refl
+    ∙ ap (λ w. w *ℚ x) (mul-inverse y ne)
+    ∙ one_mul_ℚ x
+
+-- whole numbers differ as rational numbers
+pub whole_same : (a b : ℤ) → whole a ≡ whole b → a ≡ b
+unfolding whole
+whole_same a b e =
+    let one : 0 < 1 = omega arith in
+    cancel_pos (ratio a 1).den a b (den_positive (ratio a 1))
+    (sym (ratio_value a 1 one) ∙ ap (λ (x : Rational). x.num *ℤ pos 1) e ∙ ratio_value b 1 one ∙ ap (λ (x : Rational). b *ℤ pos x.den) (sym e))

@@ -1,7 +1,7 @@
 -- Laws of finite sums of rational numbers, and of whole numbers among them.
 use Rattle.std.specs.Prelude.{◌≡◌, ◌≢◌, ℕ, zero, suc, ◌+◌, ◌<◌, ℤ, pos}
 use Rattle.std.proofs.Common.{sym, ◌∙◌, ap}
-use Rattle.commutative_ring.proofs.SumOf.{total-zero, total-suc, total_more, total_same, total_none, total-add, mul-total, total-mul, total-neg, total_swap, total_product, total_but_one, total_one, totals_same, totals-add, mul-totals}
+use Rattle.commutative_ring.proofs.SumOf.{total-zero, total-suc, total_more, total_head, total_same, total_none, total-add, mul-total, total-mul, total-neg, total_swap, total_product, total_but_one, total_one, totals_same, totals-add, mul-totals}
 use Rattle.exact_forms.specs.Rational.{Rational, whole, neg_ℚ, ◌+ℚ◌, ◌*ℚ◌}
 use Rattle.exact_forms.specs.Sums.{sum_to, sum_ℚ}
 use Rattle.exact_forms.proofs.Rational.{rational_ring, whole-add}
@@ -19,6 +19,11 @@ sum_ℚ-suc n f = total-suc rational_ring n f
 pub sum_ℚ_more : (n : ℕ) (f : ℕ → Rational) → sum_ℚ (n + 1) f ≡ sum_ℚ n f +ℚ f n
 unfolding sum_ℚ
 sum_ℚ_more n f = total_more rational_ring n f
+
+-- the first term apart
+pub sum_ℚ_head : (n : ℕ) (f : ℕ → Rational) → sum_ℚ (suc n) f ≡ f 0 +ℚ sum_ℚ n (λ k. f (suc k))
+unfolding sum_ℚ
+sum_ℚ_head n f = total_head rational_ring n f
 
 -- the terms below n decide
 pub sum_ℚ_same : (n : ℕ) (f g : ℕ → Rational) → ((k : ℕ) → k < n → f k ≡ g k) → sum_ℚ n f ≡ sum_ℚ n g

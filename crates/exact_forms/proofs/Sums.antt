@@ -3,7 +3,7 @@ use Rattle.std.specs.Prelude.{◌≡◌, ◌≢◌, ℕ, zero, suc, ◌+◌, ◌
 use Rattle.std.proofs.Common.{arith, inl, inr}
 use Rattle.std.proofs.lemmas.Int.{ints}
 use Rattle.commutative_ring.proofs.Ring.{int_ring}
-use Rattle.commutative_ring.proofs.SumOf.{total-zero, total-suc, total_more, total_same, total_none, total-add, mul-total, total-mul, total-neg, total_swap, total_product, total_but_one, total_one, totals_same, totals-add, mul-totals}
+use Rattle.commutative_ring.proofs.SumOf.{total-zero, total-suc, total_more, total_head, total_same, total_none, total-add, mul-total, total-mul, total-neg, total_swap, total_product, total_but_one, total_one, totals_same, totals-add, mul-totals}
 use Rattle.commutative_ring.proofs.Expand.{linear}
 use Rattle.exact_forms.specs.Sums.{sum_to}
 
@@ -20,6 +20,11 @@ sum_to-suc n f = total-suc int_ring n f
 pub sum_to_more : (n : ℕ) (f : ℕ → ℤ) → sum_to (n + 1) f ≡ sum_to n f +ℤ f n
 unfolding sum_to
 sum_to_more n f = total_more int_ring n f
+
+-- the first term apart
+pub sum_to_head : (n : ℕ) (f : ℕ → ℤ) → sum_to (suc n) f ≡ f 0 +ℤ sum_to n (λ k. f (suc k))
+unfolding sum_to
+sum_to_head n f = total_head int_ring n f
 
 -- the terms below n decide
 pub sum_to_same : (n : ℕ) (f g : ℕ → ℤ) → ((k : ℕ) → k < n → f k ≡ g k) → sum_to n f ≡ sum_to n g

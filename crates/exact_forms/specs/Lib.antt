@@ -3,8 +3,11 @@ pub mod Forms
 pub mod Slacks
 pub mod Rational
 pub mod Signs
-pub mod Tableau
+pub mod Lexicographic
+pub mod Coordinates
 pub mod Triangles
 pub mod Vectors
 pub mod Copositive
 pub mod Factors
+pub mod RankOne
+pub mod Neighbours

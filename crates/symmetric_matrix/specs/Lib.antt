@@ -2,3 +2,5 @@ pub mod Owed
 pub mod Operations
 pub mod Symmetric
 pub mod Lists
+pub mod StartVectors
+pub mod StartWeights

@@ -3,8 +3,12 @@
 
 mod matrix;
 mod operation;
+mod start;
 mod vector;
+mod vector_list;
 
 pub use matrix::SymInt;
 pub use operation::{IntKind, IntOp, int_add, int_mul};
+pub use start::{start_vectors, start_weights_are_coordinates};
 pub use vector::IntVector;
+pub use vector_list::VectorList;
