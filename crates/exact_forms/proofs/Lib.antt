@@ -18,3 +18,4 @@ pub mod Shown
 pub mod RankOne
 pub mod Neighbours
 pub mod Rays
+pub mod Lowest

@@ -11,3 +11,4 @@ pub mod Copositive
 pub mod Factors
 pub mod RankOne
 pub mod Neighbours
+pub mod Lowest

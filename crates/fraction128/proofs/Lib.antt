@@ -1,0 +1,4 @@
+pub mod Parts
+pub mod Binary
+pub mod Operations
+pub mod Products

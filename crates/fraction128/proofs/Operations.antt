@@ -1,0 +1,80 @@
+-- An operation at the head of a list: what it answers where it fits, and where it does not.
+use Rattle.std.specs.Prelude.{◌≡◌, ℕ, ◌+◌, ◌-◌, ◌*◌, ◌^◌, ◌<◌, ◌≤◌, ℤ, pos, ◌*ℤ◌, nat_abs, nat_lt, Bool, true, false, List, [], ◌∷◌, Ok, Err, if◌then◌else◌}
+use Rattle.std.proofs.Common.{arith, sym, ◌∙◌, ap, refl, to_z, of_z, to_z-of_z}
+use Rattle.std.proofs.lemmas.Bool.Decides.{nat_tests}
+use Rattle.std.proofs.lemmas.Int.{unsigned_abs-mul, fits_signed_from_abs}
+use Rattle.std.proofs.lemmas.Nat.{mul-le}
+use mir.Syntax.{w64, w128}
+use mir.Val.{SFits}
+use Rattle.symmetric_matrix.specs.Owed.{answer}
+use Rattle.symmetric_matrix.specs.Operations.{is_owed, exact_result, mul_op}
+use Rattle.symmetric_matrix.specs.declared.operation.IntOp.{IntOp}
+
+within : (n : ℕ) → n < 2 ^ 127 → nat_lt (2 ^ 127 - 1) n ≡ false
+within n h = grind (arith, nat_tests)
+
+beyond : (n : ℕ) → nat_lt (2 ^ 127 - 1) n ≡ false → n < 2 ^ 127
+beyond n h = grind (arith, nat_tests)
+
+-- what fits is passed over
+pub passed_over : {V : Type 0} (op : IntOp) (ops : List IntOp) (v : V) → nat_abs (exact_result op) < 2 ^ 127 → answer is_owed (op ∷ ops) v ≡ answer is_owed ops v
+unfolding answer
+passed_over op ops v h = ap (λ (b : Bool). if b then Err op else answer is_owed ops v) (within (nat_abs (exact_result op)) h)
+
+pub one_fits : (op : IntOp) → nat_abs (exact_result op) < 2 ^ 127 → answer is_owed (op ∷ []) (exact_result op) ≡ Ok (exact_result op)
+unfolding answer
+one_fits op h = passed_over op [] (exact_result op) h
+
+-- an operation that was made
+pub record IsMade {V : Type 0} (op : IntOp) (n : ℤ) (ops : List IntOp) (v : V) : Type 0 where
+  pub is : n ≡ exact_result op
+  pub fits : nat_abs n < 2 ^ 127
+  pub rest : answer is_owed (op ∷ ops) v ≡ answer is_owed ops v
+
+pub made : {V : Type 0} (op : IntOp) (n : ℤ) (ops : List IntOp) (v : V) → answer is_owed (op ∷ []) (exact_result op) ≡ Ok n → IsMade op n ops v
+unfolding answer
+made {V} op n ops v h = by (is_owed op) refl h
+  where
+    by : (b : Bool) → is_owed op ≡ b → (if b then Err op else Ok (exact_result op)) ≡ Ok n → IsMade op n ops v
+    by true e k = absurd cc
+    by false e k =
+        let is : n ≡ exact_result op = cc in
+        let fits : nat_abs (exact_result op) < 2 ^ 127 = beyond (nat_abs (exact_result op)) e in
+        record { is = is; fits = (rw is fits); rest = passed_over op ops v fits }
+
+-- an operation that was refused
+pub refused : {V : Type 0} (op err : IntOp) (ops : List IntOp) (v : V) → answer is_owed (op ∷ []) (exact_result op) ≡ Err err → answer is_owed (op ∷ ops) v ≡ Err err
+unfolding answer
+refused {V} op err ops v h = by (is_owed op) h
+  where
+    by : (b : Bool) → (if b then Err op else Ok (exact_result op)) ≡ Err err → (if b then Err op else answer is_owed ops v) ≡ Err err
+    by true k = cc
+    by false k = absurd cc
+
+-- two numbers of 63 bits
+pub narrow_product : (l r : ℤ) → nat_abs l < 2 ^ 63 → nat_abs r < 2 ^ 63 → nat_abs (l *ℤ r) < 2 ^ 127
+narrow_product l r hl hr =
+    let le : nat_abs l * nat_abs r ≤ 2 ^ 63 * 2 ^ 63 = mul-le (nat_abs l) (nat_abs r) (2 ^ 63) (2 ^ 63) (omega arith) (omega arith) in
+    let e : nat_abs (l *ℤ r) ≡ nat_abs l * nat_abs r = unsigned_abs-mul l r in
+    rw e (omega arith)
+
+-- ---- casts to 64 bits and back
+below_63 : (n : ℕ) → n < 2 ^ 63 → n < 2 ^ 127
+below_63 n h = omega arith
+
+fits_wide : (z : ℤ) → nat_abs z < 2 ^ 127 → SFits w128 z
+fits_wide z h = fits_signed_from_abs w128 z h
+
+pub narrow_back : (z : ℤ) → nat_abs z < 2 ^ 63 → to_z w128 (of_z w128 (to_z w64 (of_z w64 (to_z w128 (of_z w128 z))))) ≡ z
+narrow_back z h =
+    let wide : SFits w128 z = fits_wide z (below_63 (nat_abs z) h) in
+    let narrow : SFits w64 z = fits_signed_from_abs w64 z h in
+    ap (λ (y : ℤ). to_z w128 (of_z w128 (to_z w64 (of_z w64 y)))) (to_z-of_z wide)
+    ∙ ap (λ (y : ℤ). to_z w128 (of_z w128 y)) (to_z-of_z narrow)
+    ∙ to_z-of_z wide
+
+pub narrow_product_fits : (l r : ℤ) → nat_abs l < 2 ^ 63 → nat_abs r < 2 ^ 63 → SFits w128 (l *ℤ r)
+narrow_product_fits l r hl hr = fits_wide (l *ℤ r) (narrow_product l r hl hr)
+
+pub narrow_made : (l r : ℤ) → nat_abs l < 2 ^ 63 → nat_abs r < 2 ^ 63 → answer is_owed (mul_op l r ∷ []) (l *ℤ r) ≡ Ok (l *ℤ r)
+narrow_made l r hl hr = one_fits (mul_op l r) (narrow_product l r hl hr)

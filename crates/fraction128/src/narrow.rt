@@ -1,0 +1,43 @@
+//! Products and quotients that take 64 bits where the numbers fit.
+
+ghost use Rattle.std.specs.Prelude.{◌≡◌, ◌<◌, ◌^◌, ◌↔◌, pos, ◌≤ℤ◌, ◌*ℤ◌, nat_abs, IsTrue, [], ◌∷◌};
+ghost use Rattle.commutative_ring.proofs.Lowest.{divided};
+ghost use Rattle.symmetric_matrix.specs.Owed.{answer};
+ghost use Rattle.symmetric_matrix.specs.Operations.{is_owed, mul_op};
+
+use symmetric_matrix::{IntOp, int_mul};
+
+// The magnitude is at most 2^63 - 1.
+#[inline]
+pub fn is_narrow(value: i128) -> bool
+    ensures { IsTrue result ↔ (nat_abs value < 2 ^ 63) }
+{
+    -(i64::MAX as i128) <= value && value <= i64::MAX as i128
+}
+
+/// The product, or the operation where it does not fit. Of two narrow numbers it fits, with no test.
+#[inline]
+pub fn multiply(left: i128, right: i128) -> Result<i128, IntOp>
+    ensures { result ≡ answer is_owed (mul_op left right ∷ []) (left *ℤ right) }
+{
+    if is_narrow(left) && is_narrow(right) {
+        Ok((left as i64 as i128) * (right as i64 as i128))
+    } else {
+        int_mul(left, right)
+    }
+}
+
+/// The quotient, rounded towards zero.
+#[inline]
+pub fn quotient(value: i128, by: i128) -> i128
+    requires { pos 1 ≤ℤ by }
+    ensures { result ≡ divided value (nat_abs by) }
+{
+    if by == 1 {
+        value
+    } else if is_narrow(value) && is_narrow(by) {
+        (value as i64 / by as i64) as i128
+    } else {
+        value / by
+    }
+}
