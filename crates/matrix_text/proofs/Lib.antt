@@ -3,14 +3,9 @@ pub mod LineLemmas
 pub mod NumberLemmas
 pub mod RowLemmas
 pub mod TextRows
-pub mod Digits
-pub mod Joins
 pub mod Cuts
-pub mod Numerals
-pub mod Entries
-pub mod Tables
-pub mod Spelled
-pub mod Ranges
 pub mod Squares
 pub mod Symmetries
-pub mod WholeTexts
+pub mod Numerals
+pub mod Entries
+pub mod Readings
