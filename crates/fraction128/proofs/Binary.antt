@@ -3,10 +3,9 @@ use Rattle.std.specs.Prelude.{◌≡◌, ◌≢◌, ◌⊎◌, ℕ, zero, suc, �
 use Rattle.std.proofs.Common.{arith, sym, ◌∙◌, ap, ap₂, refl, subst, inl, inr, min}
 use Rattle.std.specs.Int.{IsGcd}
 use Rattle.std.proofs.lemmas.Nat.{shr-shr, shr_le, pow-add, pow_pos}
-use Rattle.std.proofs.lemmas.Nat.Gcd.{same_from_IsGcd, IsGcd-from_sub, IsGcd-swap, dvd_trans, dvd_refl}
+use Rattle.std.proofs.lemmas.Nat.Gcd.{same_from_IsGcd, IsGcd-from_sub, dvd_trans, dvd_refl}
 use Rattle.std.proofs.Math.Nat.{pow-suc}
-use Prim.Native.Nat.{◌∣◌}
-use native.Mathlib.Nat.{dvd-mul_left, dvd-mul_right, mul_assoc, mul_comm, mod-eq_of_lt, lt_of_le_of_lt}
+use native.Mathlib.Nat.{dvd-mul_left, mul_assoc, mul_comm, mod-eq_of_lt, lt_of_le_of_lt}
 use lib.Count.{count_trailing_zeros, under}
 use Rattle.commutative_ring.specs.Gcd.{gcd_of, gcd_steps}
 use Rattle.commutative_ring.proofs.Gcd.{gcd_of_is, gcd_of_scaled, gcd_of-step, gcd_of-zero, gcd_of-le_left, dvd_of_dvd-mul}

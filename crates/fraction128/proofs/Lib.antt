@@ -2,3 +2,4 @@ pub mod Parts
 pub mod Binary
 pub mod Operations
 pub mod Products
+pub mod Sums

@@ -1,8 +1,8 @@
 -- An operation at the head of a list: what it answers where it fits, and where it does not.
-use Rattle.std.specs.Prelude.{◌≡◌, ℕ, ◌+◌, ◌-◌, ◌*◌, ◌^◌, ◌<◌, ◌≤◌, ℤ, pos, ◌*ℤ◌, nat_abs, nat_lt, Bool, true, false, List, [], ◌∷◌, Ok, Err, if◌then◌else◌}
-use Rattle.std.proofs.Common.{arith, sym, ◌∙◌, ap, refl, to_z, of_z, to_z-of_z}
+use Rattle.std.specs.Prelude.{◌≡◌, ℕ, ◌-◌, ◌*◌, ◌^◌, ◌<◌, ◌≤◌, ◌↔◌, suc, ℤ, pos, negsuc, neg_ℤ, ◌-ℤ◌, ◌*ℤ◌, ◌≤ℤ◌, nat_abs, nat_lt, Bool, true, false, List, [], ◌∷◌, Ok, Err, if◌then◌else◌}
+use Rattle.std.proofs.Common.{arith, ◌∙◌, ap, refl, eqb, eqb-true, eq-eqb, to_z, of_z, to_z-of_z}
 use Rattle.std.proofs.lemmas.Bool.Decides.{nat_tests}
-use Rattle.std.proofs.lemmas.Int.{unsigned_abs-mul, fits_signed_from_abs}
+use Rattle.std.proofs.lemmas.Int.{ints, unsigned_abs-mul, fits_signed_from_abs}
 use Rattle.std.proofs.lemmas.Nat.{mul-le}
 use mir.Syntax.{w64, w128}
 use mir.Val.{SFits}
@@ -13,7 +13,7 @@ use Rattle.symmetric_matrix.specs.declared.operation.IntOp.{IntOp}
 within : (n : ℕ) → n < 2 ^ 127 → nat_lt (2 ^ 127 - 1) n ≡ false
 within n h = grind (arith, nat_tests)
 
-beyond : (n : ℕ) → nat_lt (2 ^ 127 - 1) n ≡ false → n < 2 ^ 127
+pub beyond : (n : ℕ) → nat_lt (2 ^ 127 - 1) n ≡ false → n < 2 ^ 127
 beyond n h = grind (arith, nat_tests)
 
 -- what fits is passed over
@@ -78,3 +78,27 @@ narrow_product_fits l r hl hr = fits_wide (l *ℤ r) (narrow_product l r hl hr)
 
 pub narrow_made : (l r : ℤ) → nat_abs l < 2 ^ 63 → nat_abs r < 2 ^ 63 → answer is_owed (mul_op l r ∷ []) (l *ℤ r) ≡ Ok (l *ℤ r)
 narrow_made l r hl hr = one_fits (mul_op l r) (narrow_product l r hl hr)
+
+-- ---- other casts
+pub neg_back : (z : ℤ) → nat_abs z < 2 ^ 127 → to_z w128 (of_z w128 (pos 0 -ℤ to_z w128 (of_z w128 z))) ≡ neg_ℤ z
+neg_back z h =
+    let there : SFits w128 (neg_ℤ z) = fits_wide (neg_ℤ z) (negated z h) in
+    ap (λ (y : ℤ). to_z w128 (of_z w128 (pos 0 -ℤ y))) (to_z-of_z (fits_wide z h))
+    ∙ ap (λ (y : ℤ). to_z w128 (of_z w128 y)) (from_zero z)
+    ∙ to_z-of_z there
+  where
+    negated : (z : ℤ) → nat_abs z < 2 ^ 127 → nat_abs (neg_ℤ z) < 2 ^ 127
+    negated z h = omega (arith, ints)
+
+    from_zero : (z : ℤ) → pos 0 -ℤ z ≡ neg_ℤ z
+    from_zero z = omega (arith, ints)
+
+pub den_fits : (d : ℤ) → SFits w128 d → pos 1 ≤ℤ d → nat_abs d < 2 ^ 127
+den_fits d f h = omega (arith, ints)
+
+pub zero_bits : (z : ℤ) → nat_abs z < 2 ^ 127 → (eqb (of_z w128 z) 0 ≡ true) ↔ (z ≡ pos 0)
+zero_bits (pos n) h = (λ t. ap pos (eqb-true n 0 t), λ e. eq-eqb n 0 (omega (arith, ints)))
+zero_bits (negsuc n) h = (λ t. absurd (none n h (eqb-true (2 ^ 128 - suc n) 0 t)), λ e. absurd cc)
+  where
+    none : (n : ℕ) → suc n < 2 ^ 127 → 2 ^ 128 - suc n ≡ 0 → ⊥
+    none n h e = omega arith

@@ -1,5 +1,5 @@
 -- The recipe of a product of fractions.
-use Rattle.std.specs.Prelude.{◌≡◌, ℕ, zero, suc, ◌*◌, ◌/◌, ◌<◌, ◌^◌, ℤ, pos, negsuc, nat_abs, ◌*ℤ◌, ◌≤ℤ◌, [], ◌∷◌, Ok, Err}
+use Rattle.std.specs.Prelude.{◌≡◌, ℕ, zero, suc, ◌*◌, ◌/◌, ◌<◌, ℤ, pos, negsuc, nat_abs, ◌*ℤ◌, ◌≤ℤ◌, [], ◌∷◌, Ok, Err}
 use Rattle.std.proofs.Common.{arith, sym, ◌∙◌, ap, ap₂, refl, mul-pos}
 use Rattle.std.proofs.lemmas.Int.{ints, unsigned_abs-mul}
 use Prim.Native.Nat.{◌∣◌}

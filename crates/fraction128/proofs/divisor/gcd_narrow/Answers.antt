@@ -1,4 +1,4 @@
-use Rattle.std.proofs.Common.{◌≡◌, ◌<◌, arith, sym, ◌∙◌, ap, ap₂}
+use Rattle.std.proofs.Common.{arith, sym, ◌∙◌, ap}
 use Rattle.commutative_ring.specs.Gcd.{gcd_of}
 use Rattle.commutative_ring.proofs.Gcd.{gcd_of-zero}
 use Rattle.fraction128.proofs.Binary.{shifted_back, zero_gcd_of}

@@ -14,9 +14,9 @@ returns-then-b-eq0 c = sym (c.loop-b.invariant ∙ ap (λ n. gcd_of c.loop-b.a n
 -- the number that is left stands for a
 same : (c : goal.After-gcd_narrow) → gcd_of c.if-a-gt-NARROW.a c.loop-b.b ≡ gcd_of c.loop-b.a c.loop-b.b
 same c = elim c.if-a-gt-NARROW.branch [
-      then-a-gt-NARROW w ↦ ap (λ n. gcd_of n c.loop-b.b) w.a-is ∙ gcd_comm _ c.loop-b.b ∙ sym (gcd_of-step c.loop-b.a c.loop-b.b)
-    | else-a-gt-NARROW w ↦ ap (λ n. gcd_of n c.loop-b.b) w.a-is
-  ]
+  | then-a-gt-NARROW w ↦ ap (λ n. gcd_of n c.loop-b.b) w.a-is ∙ gcd_comm _ c.loop-b.b ∙ sym (gcd_of-step c.loop-b.a c.loop-b.b)
+  | else-a-gt-NARROW w ↦ ap (λ n. gcd_of n c.loop-b.b) w.a-is
+]
 
 pub returns : goal.returns
 returns c = c.gcd_narrow.ensures ∙ same c ∙ sym c.loop-b.invariant

@@ -1,7 +1,4 @@
-use Rattle.std.proofs.Common.{◌<◌, ◌^◌, nat_abs, arith, sym, refl, ◌∙◌, ap, ap₂, subst, ℤ, ◌*ℤ◌, Ok, to_z-of_z}
-use Rattle.symmetric_matrix.specs.declared.operation.IntOp.{IntOp}
-use mir.Syntax.{w128}
-use mir.Val.{SFits}
+use Rattle.std.proofs.Common.{◌<◌, ◌^◌, nat_abs, sym, refl, subst, ℤ, to_z-of_z}
 use Rattle.fraction128.proofs.Operations.{narrow_back, narrow_product_fits, narrow_made}
 use Rattle.fraction128.proofs.narrow.multiply.Goals as goal
 
