@@ -1,8 +1,8 @@
 -- Where an entry of a matrix stands, and what a fraction word stands for.
-use Rattle.std.proofs.Common.{◌≡◌, ℕ, ◌+◌, ◌-◌, ◌<◌, ◌≤◌, ◌^◌, Bool, true, false, cond, List, length, get_or, min, max, ℤ, pos, neg_ℤ, Ok, refl, sym, ap, ◌∙◌, inl, inr, arith}
+use Rattle.std.proofs.Common.{◌≡◌, ℕ, ◌+◌, ◌-◌, ◌<◌, ◌≤◌, ◌^◌, true, false, cond, List, length, get_or, min, max, ℤ, pos, neg_ℤ, Ok, refl, sym, ap, ◌∙◌, inl, inr, arith}
 use Rattle.std.proofs.lemmas.Bool.{ne_eqb, le-ltb, cases_lt}
 use Rattle.std.proofs.lemmas.List.{get_or_default}
-use Rattle.exact_forms.specs.Rational.{Rational, ratio}
+use Rattle.exact_forms.specs.Rational.{ratio}
 use Rattle.exact_forms.specs.Triangles.{triangle, entry_in}
 use Rattle.exact_forms.proofs.Triangles.{entry_before, entry_in_below, entry_in_above}
 use Rattle.matrix_text.specs.Numbers.{is_whole, whole_value, is_signed, magnitude, signed_value, begins_with_minus}

@@ -9,3 +9,7 @@ pub mod Symmetries
 pub mod Numerals
 pub mod Entries
 pub mod Readings
+pub mod Written
+pub mod RoundTrip
+pub mod Tables
+pub mod MatrixTexts

@@ -1,18 +1,16 @@
 -- From the rows of a text to its matrix.
-use Rattle.std.proofs.Common.{◌≡◌, ℕ, ◌<◌, ◌≤◌, ◌⊎◌, List, [], ◌∷◌, length, get_or, take, map, Option, Some, None, Result, Ok, Err, refl, sym, ap, ◌∙◌, inl, inr, arith}
+use Rattle.std.proofs.Common.{◌≡◌, ℕ, List, [], ◌∷◌, length, take, map, Option, Some, None, Result, Ok, Err, refl, sym, ap, ◌∙◌, inl, inr, arith}
 use Rattle.std.proofs.lemmas.List.{length-map, length-take-le}
 use Rattle.exact_forms.specs.Rational.{Rational}
 use Rattle.matrix_text.specs.Lines.{content_lines, end_line}
 use Rattle.matrix_text.specs.Square.{lower_of, first_unlike}
 use Rattle.matrix_text.specs.RationalMatrix.{RationalMatrix}
-use Rattle.matrix_text.specs.Matrix.{TextRow, none, same_number, entries_of, line_of_row, mirrored, table_of, matrix_of, MatrixText, MatrixFault, IsTextOfOne, IsFaultyOnce, HasOneReading}
+use Rattle.matrix_text.specs.Matrix.{none, same_number, entries_of, line_of_row, mirrored, table_of, matrix_of, MatrixText, MatrixFault, HasOneReading}
 use Rattle.matrix_text.specs.Rows.{text_row, table_rows, table_entries}
 use Rattle.matrix_text.specs.declared.table.Row.{Row}
 use Rattle.matrix_text.specs.declared.table.Table.{Table}
-use Rattle.matrix_text.specs.declared.fault.TextKind.{TextKind}
 use Rattle.matrix_text.specs.declared.fault.TextKind.TheVariants.{NotSymmetric}
 use Rattle.matrix_text.specs.declared.fault.TextFault.{TextFault}
-use Rattle.matrix_text.proofs.Symmetries.{length-entries}
 
 entries-rows : (size : ℕ) (rows : List Row) → entries_of (map (text_row size) rows) ≡ map (λ (row : Row). take size row.entries) rows
 entries-rows size [] = refl

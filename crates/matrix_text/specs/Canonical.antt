@@ -6,7 +6,7 @@
 --     matrix_text a       the full symmetric matrix
 --     IsShort q           the magnitude of the numerator and the denominator are at most 9223372036854775807
 --     IsShortMatrix a     1 to 6 rows, each entry short
-use Rattle.std.specs.Prelude.{◌≡◌, ℕ, ◌≤◌, List, [], ◌∷◌, ◌++◌, length, map, nat_abs, codes, All, ◌==◌, if◌then◌else◌}
+use Rattle.std.specs.Prelude.{ℕ, ◌≤◌, List, [], ◌∷◌, ◌++◌, length, map, nat_abs, codes, All, ◌==◌, if◌then◌else◌}
 use Rattle.std.specs.List.{flat_map, join_with_byte}
 use Rattle.std.specs.Fmt.{decimal, signed_decimal}
 use Rattle.exact_forms.specs.Rational.{Rational}

@@ -16,7 +16,9 @@ mod rows;
 mod symmetry;
 mod table;
 pub mod words;
+mod writing;
 
 pub use fault::{TextFail, TextFault, TextKind};
 pub use matrix::RatMatrix;
 pub use reading::read_matrix;
+pub use writing::write_matrix;

@@ -1,6 +1,6 @@
-use Rattle.std.proofs.Common.{◌≡◌, ◌∙◌, sym, ap, subst, Result, Err}
+use Rattle.std.proofs.Common.{◌≡◌, ◌∙◌, subst, Result, Err}
 use Rattle.std.proofs.lemmas.Result.{IfOk-weaker}
-use Rattle.matrix_text.specs.Matrix.{matrix_of, MatrixText, MatrixFault}
+use Rattle.matrix_text.specs.Matrix.{MatrixText, MatrixFault}
 use Rattle.matrix_text.specs.declared.fault.TextFault.{TextFault}
 use Rattle.matrix_text.specs.declared.fault.TextFail.{TextFail}
 use Rattle.matrix_text.specs.declared.fault.TextFail.TheVariants.{Fault}
