@@ -3,3 +3,5 @@ pub mod Binary
 pub mod Operations
 pub mod Products
 pub mod Sums
+pub mod Orders
+pub mod TermLists

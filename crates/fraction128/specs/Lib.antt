@@ -1,1 +1,3 @@
 pub mod Recipes
+pub mod Order
+pub mod Terms

@@ -1,15 +1,19 @@
 //! A fraction and its arithmetic.
 
 ghost use Rattle.std.specs.Prelude.{◌≡◌, ◌≢◌, ◌<◌, ◌^◌, ◌↔◌, pos, ◌≤ℤ◌, ◌+ℤ◌, ◌*ℤ◌, nat_abs, IsTrue};
-ghost use Rattle.exact_forms.specs.Rational.{Rational, ratio, whole, inverse, neg_ℚ, ◌+ℚ◌, ◌-ℚ◌, ◌*ℚ◌, ◌/ℚ◌};
+ghost use Rattle.std.specs.Ordering.{MatchOrdering};
+ghost use Rattle.exact_forms.specs.Rational.{Rational, ratio, whole, inverse, neg_ℚ, ◌+ℚ◌, ◌-ℚ◌, ◌*ℚ◌, ◌/ℚ◌, ◌<ℚ◌};
 ghost use Rattle.exact_forms.specs.Lowest.{IsLowest};
 ghost use Rattle.exact_forms.proofs.Lowest.{lowest_parts};
 ghost use Rattle.symmetric_matrix.specs.Owed.{answer};
 ghost use Rattle.symmetric_matrix.specs.Operations.{is_owed};
 ghost use Rattle.fraction128.specs.Recipes.{mul_ops, div_ops, sum_ops, add_ops, sub_ops};
+ghost use Rattle.fraction128.specs.Order.{order_of};
 
 use crate::divisor::common_divisor;
 use crate::narrow::{multiply, quotient};
+use crate::order::order_of_ratios;
+use std::cmp::Ordering;
 use std::marker::Model;
 use symmetric_matrix::{IntOp, int_add};
 
@@ -87,6 +91,14 @@ impl Fraction {
         ensures { IsTrue result ↔ (self.now ≡ whole (pos 0)) }
     {
         self.num == 0
+    }
+
+    /// Whether the fraction is less than, equal to or greater than the other.
+    pub fn cmp(&self, other: &Fraction) -> Ordering
+        ensures order { result ≡ order_of self.now other.now }
+        ensures ranks { MatchOrdering result (self.now <ℚ other.now) (self.now ≡ other.now) (other.now <ℚ self.now) }
+    {
+        order_of_ratios(self.num, self.den, other.num, other.den)
     }
 
     /// The sum, or the first operation of `add_ops` that does not fit.

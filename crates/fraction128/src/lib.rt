@@ -4,5 +4,8 @@
 mod divisor;
 mod fraction;
 mod narrow;
+mod order;
+mod weighted;
 
 pub use fraction::Fraction;
+pub use weighted::{Term, Terms};

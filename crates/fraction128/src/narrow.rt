@@ -15,13 +15,23 @@ pub fn is_narrow(value: i128) -> bool
     -(i64::MAX as i128) <= value && value <= i64::MAX as i128
 }
 
+/// The product of two narrow numbers.
+#[inline]
+pub fn narrow_product(left: i128, right: i128) -> i128
+    requires left { nat_abs left < 2 ^ 63 }
+    requires right { nat_abs right < 2 ^ 63 }
+    ensures { result ≡ left *ℤ right }
+{
+    (left as i64 as i128) * (right as i64 as i128)
+}
+
 /// The product, or the operation where it does not fit. Of two narrow numbers it fits, with no test.
 #[inline]
 pub fn multiply(left: i128, right: i128) -> Result<i128, IntOp>
     ensures { result ≡ answer is_owed (mul_op left right ∷ []) (left *ℤ right) }
 {
     if is_narrow(left) && is_narrow(right) {
-        Ok((left as i64 as i128) * (right as i64 as i128))
+        Ok(narrow_product(left, right))
     } else {
         int_mul(left, right)
     }
