@@ -69,7 +69,7 @@ pub runs_from_more : (j m : ℕ) → runs_from j (m + 1) ≡ runs_from j m ++ re
 unfolding runs_from
 runs_from_more j m = map-range_with_len_more (λ k. record { first = j; last = k }) j m (j + m) refl
 
-range_more : (m : ℕ) → range_with_len 0 (m + 1) ≡ range_with_len 0 m ++ m ∷ []
+pub range_more : (m : ℕ) → range_with_len 0 (m + 1) ≡ range_with_len 0 m ++ m ∷ []
 range_more m = sym (map-id (range_with_len 0 (m + 1))) ∙ map-range_with_len_more (λ (k : ℕ). k) 0 m m (omega arith) ∙ ap (λ (ks : List ℕ). ks ++ m ∷ []) (map-id (range_with_len 0 m))
 
 pub late_runs_none : (n : ℕ) → late_runs n 0 ≡ []

@@ -16,7 +16,7 @@ module _ {A : Type 0} (R : CommutativeRing A) where
   minus_same x = ring_in R (x ∷ []) (v0 ⊖ v0) (num (pos 0)) refl
 
   -- ---- sums over a list
-  pub list_sum : {X : Type 0} → (X → A) → List X → A
+  unfoldable pub list_sum : {X : Type 0} → (X → A) → List X → A
   list_sum f [] = R.of_int (pos 0)
   list_sum f (x ∷ xs) = R.add (f x) (list_sum f xs)
 
