@@ -13,3 +13,5 @@ pub mod Written
 pub mod RoundTrip
 pub mod Tables
 pub mod MatrixTexts
+pub mod Clearings
+pub mod ClearedMatrices

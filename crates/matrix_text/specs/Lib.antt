@@ -7,3 +7,5 @@ pub mod Matrix
 pub mod Rows
 pub mod Spelling
 pub mod Canonical
+pub mod Clearing
+pub mod Refusals

@@ -4,6 +4,7 @@
 //! without words, and those whose first word begins with `#`, are skipped but counted.
 #![tactic(auto)]
 
+mod clearing;
 pub mod content;
 mod entry;
 mod fault;
@@ -18,6 +19,7 @@ mod table;
 pub mod words;
 mod writing;
 
+pub use clearing::{ClearFail, cleared};
 pub use fault::{TextFail, TextFault, TextKind};
 pub use matrix::RatMatrix;
 pub use reading::read_matrix;

@@ -72,7 +72,9 @@ impl RatMatrix {
 
     /// The lower triangle, row by row.
     pub(crate) fn lower(&self) -> &[Fraction]
-        ensures { result.now ≡ self.now.lower }
+        ensures value { result.now ≡ self.now.lower }
+        ensures matrix { IsRationalMatrix self.now }
+        ensures short { length self.now.lower ≤ 36 }
     {
         &self.lower
     }
