@@ -44,11 +44,12 @@ clear_ok a d s xs first second is =
     let given = rw size at second in
     let values : numerators_over (least_denominator a) a.lower ≡ xs = rw size at (numerators_are a d xs second) in
     (answer-append_ok is_placed_owed (denominator_ops 1 (placed_entries a)) (numerator_ops (least_denominator a) (placed_entries a)) (pos (least_denominator a)) d (made (numerators_over (least_denominator a) a.lower) (pos (least_denominator a))) first).0
-        ∙ any_value (numerator_ops (least_denominator a) (placed_entries a)) (numerators_over (least_denominator a) a.lower) xs (made (numerators_over (least_denominator a) a.lower) (pos (least_denominator a))) given
-        ∙ ap₂ (λ xs d. ok (made xs d)) values known ∙ ap (λ (s : Symmetric). ok (s, d)) (sym is)
+    ∙ any_value (numerator_ops (least_denominator a) (placed_entries a)) (numerators_over (least_denominator a) a.lower) xs (made (numerators_over (least_denominator a) a.lower) (pos (least_denominator a))) given
+    ∙ ap₂ (λ xs d. ok (made xs d)) values known ∙ ap (λ (s : Symmetric). ok (s, d)) (sym is)
   where
     made : List ℤ → ℤ → Symmetric × ℤ
     made xs d = (record { size = a.size; lower = xs }, d)
+
     ok : Symmetric × ℤ → Result (Symmetric × ℤ) PlacedOp
     ok r = Ok r
 
@@ -65,7 +66,7 @@ refused_second a d (Wide row column op) first h =
     let size : nat_abs d ≡ least_denominator a = ap nat_abs (sym (denominator_is a d first)) in
     let given = rw size at h in
     (answer-append_ok is_placed_owed (denominator_ops 1 (placed_entries a)) (numerator_ops (least_denominator a) (placed_entries a)) (pos (least_denominator a)) d (cleared_of a) first).0
-        ∙ any_refusal (numerator_ops (least_denominator a) (placed_entries a)) (numerators_over (least_denominator a) a.lower) (cleared_of a) (record { row = row; column = column; op = op }) given
+    ∙ any_refusal (numerator_ops (least_denominator a) (placed_entries a)) (numerators_over (least_denominator a) a.lower) (cleared_of a) (record { row = row; column = column; op = op }) given
 refused_second a d OutOfMemory first h = tt
 
 least : (a : RationalMatrix) → IsRationalMatrix a → IsLeastCommon (least_denominator a) a.lower

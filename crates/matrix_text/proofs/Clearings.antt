@@ -72,7 +72,7 @@ row-placed xs i (suc m) j e lt =
     let after : triangle i + j + 1 ≡ triangle i + (j + 1) = omega arith in
     let other : (j + 1) ≢ (i + 1) = λ same. omega arith in
     rw (drop_more xs (triangle i + j) none (omega arith), ne_eqb (j + 1) (i + 1) other, value, after)
-        (ap (λ (ps : List PlacedEntry). at i j ∷ ps) (row-placed xs i m (j + 1) (omega arith) lt))
+    (ap (λ (ps : List PlacedEntry). at i j ∷ ps) (row-placed xs i m (j + 1) (omega arith) lt))
   where
     at : ℕ → ℕ → PlacedEntry
     at i j = record { row = i + 1; column = j + 1; value = entry_in none xs i j }
@@ -205,14 +205,16 @@ multiple_least e (suc d) m h p q =
     let quotient : m / e * e ≡ m = div-mul_cancel e p in
     let g_some = gcd_positive e d in
     let cut : suc d / gcd_of e (suc d) ∣ e / gcd_of e (suc d) * (m / e) = dvd_of_mul-dvd-mul-right (suc d / gcd_of e (suc d)) (e / gcd_of e (suc d) * (m / e)) (gcd_of e (suc d)) g_some
-        (rw (part_times e d) (subst (λ (n : ℕ). suc d ∣ n) (sym (gathered (e / gcd_of e (suc d)) (m / e) (gcd_of e (suc d)) e (above_times e d) m quotient)) q)) in
+    (rw (part_times e d) (subst (λ (n : ℕ). suc d ∣ n) (sym (gathered (e / gcd_of e (suc d)) (m / e) (gcd_of e (suc d)) e (above_times e d) m quotient)) q)) in
     let rest : suc d / gcd_of e (suc d) ∣ m / e = dvd_of_dvd-mul (e / gcd_of e (suc d)) (suc d / gcd_of e (suc d)) (m / e) (parts_lowest e d) cut in
     subst (λ (n : ℕ). e * (suc d / gcd_of e (suc d)) ∣ n) (swapped e (m / e) m quotient) (mul-dvd-mul_left (suc d / gcd_of e (suc d)) e rest)
   where
     gathered : (x k g e : ℕ) → x * g ≡ e → (m : ℕ) → k * e ≡ m → x * k * g ≡ m
     gathered x k g e h m i = rw (← i, ← h) (omega arith)
+
     swapped : (e k m : ℕ) → k * e ≡ m → e * k ≡ m
     swapped e k m h = omega arith
+
     dvd_of_mul-dvd-mul-right : (x y g : ℕ) → 0 < g → x * g ∣ y * g → x ∣ y
     dvd_of_mul-dvd-mul-right x y g some h = dvd_of_mul-dvd-mul_right x some h
 

@@ -25,7 +25,7 @@ read_is_entry none x xs n r c k len low high first last e is =
     let a : max (r - 1) (c - 1) ≡ max r c - 1 = omega arith in
     let b : min (r - 1) (c - 1) ≡ min r c - 1 = omega arith in
     is ∙ get_or_default xs k x none (rw len (place_in_range n r c k (triangle n) refl low high first last e))
-        ∙ ap (λ (m : ℕ). get_or xs m none) e ∙ sym (rw (a, b) at (entry_sorted none xs (r - 1) (c - 1)))
+    ∙ ap (λ (m : ℕ). get_or xs m none) e ∙ sym (rw (a, b) at (entry_sorted none xs (r - 1) (c - 1)))
 
 -- two words that write numbers of at most 63 bits, the lower one not 0
 pub ratio-good : (top bottom : List ℕ) (num : ℤ) (m den : ℕ) → is_signed top ≡ true → is_whole bottom ≡ true → m ≡ min (magnitude top) (2 ^ 128 - 1) → den ≡ min (whole_value bottom) (2 ^ 128 - 1)

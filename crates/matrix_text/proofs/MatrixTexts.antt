@@ -71,7 +71,7 @@ rows-matrix : (n : ℕ) (lower : List Rational) → length lower ≡ triangle n
 rows-matrix n lower len =
     let square = square-full none n lower in
     rw (mirrored-alike same_number none n (full none n lower) Decides-same_number square.len (full-mirrored none n lower))
-        (ap₂ made (length-rows 2 (full none n lower) ∙ square.len) (ap (λ (rows : List (List Rational)). lower_of rows) (entries-rows 2 (full none n lower)) ∙ lower-full none n lower len))
+    (ap₂ made (length-rows 2 (full none n lower) ∙ square.len) (ap (λ (rows : List (List Rational)). lower_of rows) (entries-rows 2 (full none n lower)) ∙ lower-full none n lower len))
   where
     made : ℕ → List Rational → Result RationalMatrix TextFault
     made size entries = Ok (record { size = size; lower = entries })

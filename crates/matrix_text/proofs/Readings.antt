@@ -53,11 +53,13 @@ one-reading bytes = by (matrix_of bytes) refl
       where
         same : (a b : RationalMatrix) → ◌≡◌ {A = Result RationalMatrix TextFault} (Ok a) (Ok b) → b ≡ a
         same a b e = cc
+
         apart : {a : RationalMatrix} {fault : TextFault} → ◌≡◌ {A = Result RationalMatrix TextFault} (Ok a) (Err fault) → ⊥
         apart e = cc
     by (Err f) is = inr (f, record { fault = is; alone = λ kind line h. same f (record { kind = kind; line = line }) (sym is ∙ h); no_text = λ a h. apart (sym is ∙ h) })
       where
         same : (f g : TextFault) → ◌≡◌ {A = Result RationalMatrix TextFault} (Err f) (Err g) → (g.kind ≡ f.kind) × (g.line ≡ f.line)
         same f g e = (cc, cc)
+
         apart : {a : RationalMatrix} {fault : TextFault} → ◌≡◌ {A = Result RationalMatrix TextFault} (Err fault) (Ok a) → ⊥
         apart e = cc

@@ -28,7 +28,7 @@ position-at : (p : ℕ → Bool) (xs : List ℕ) (y : ℕ) (ys : List ℕ) → A
 position-at p xs y ys h e =
     let len = length-append xs (y ∷ ys) in
     let n : position_or_len p (xs ++ y ∷ ys) ≡ length xs = position_or_len_is p (xs ++ y ∷ ys) (length xs) 0 (omega (arith, len))
-        (λ k lt. rw (get_or_append_left xs (y ∷ ys) 0 k lt) (h k 0 lt)) (λ lt. rw (get_or-append_seam xs y ys 0) e) in
+    (λ k lt. rw (get_or_append_left xs (y ∷ ys) 0 k lt) (h k 0 lt)) (λ lt. rw (get_or-append_seam xs y ys 0) e) in
     rw (n, lt-ltb (length xs) (length (xs ++ y ∷ ys)) (omega (arith, len))) refl
 
 small-numbers : (q : Rational) → IsShort q → (nat_abs q.num < 2 ^ 64) × (q.den < 2 ^ 64)
@@ -44,7 +44,7 @@ ratio-read q h =
     let large : is_large (magnitude (signed_decimal q.num)) ≡ false = rw (magnitude-decimal q.num s.0) (le-ltb 9223372036854775807 (nat_abs q.num) num) in
     let long : is_large (whole_value (decimal q.den)) ≡ false = rw (whole_value-decimal q.den s.1) (le-ltb 9223372036854775807 q.den den) in
     rw (is_signed-decimal q.num s.0, is_whole-decimal q.den s.1, large, long, whole_value-decimal q.den s.1, ne_eqb q.den 0 (λ e. omega (arith, positive)), signed_value-decimal q.num s.0)
-        (ap made (ratio_parts q))
+    (ap made (ratio_parts q))
   where
     made : Rational → Result Rational TextKind
     made x = Ok x

@@ -67,9 +67,9 @@ column_more row j q old mid new is e f =
     let words = λ (j : ℕ). fraction_word (row j) in
     let len : length (map (λ j. fraction_word (row j)) (range_with_len 0 j)) ≡ j = length-map-range_with_len (λ j. fraction_word (row j)) 0 j in
     let joined : join_with_byte 32 (map (λ j. fraction_word (row j)) (range_with_len 0 (j + 1))) ≡ join_with_byte 32 (map (λ j. fraction_word (row j)) (range_with_len 0 j)) ++ separated j (fraction_word (row j)) =
-        ap (join_with_byte 32) (map-range_with_len_more (λ j. fraction_word (row j)) 0 j j (omega arith))
-        ∙ join_push (map (λ j. fraction_word (row j)) (range_with_len 0 j)) (fraction_word (row j))
-        ∙ ap (λ (k : ℕ). join_with_byte 32 (map (λ j. fraction_word (row j)) (range_with_len 0 j)) ++ separated k (fraction_word (row j))) len in
+    ap (join_with_byte 32) (map-range_with_len_more (λ j. fraction_word (row j)) 0 j j (omega arith))
+    ∙ join_push (map (λ j. fraction_word (row j)) (range_with_len 0 j)) (fraction_word (row j))
+    ∙ ap (λ (k : ℕ). join_with_byte 32 (map (λ j. fraction_word (row j)) (range_with_len 0 j)) ++ separated k (fraction_word (row j))) len in
     rw (f, e, joined, is) (append_assoc old (join_with_byte 32 (map (λ j. fraction_word (row j)) (range_with_len 0 j))) (separated j (fraction_word (row j))))
 
 map-map : {A B C : Type 0} (f : A → B) (g : B → C) (xs : List A) → map g (map f xs) ≡ map (λ x. g (f x)) xs

@@ -16,6 +16,8 @@ mod reading;
 mod rows;
 mod symmetry;
 mod table;
+#[cfg(test)]
+mod tests;
 pub mod words;
 mod writing;
 

@@ -25,8 +25,8 @@ returns-in_err-numerator_at-clause-wide c =
     let inside : c.loop-entry.entry-index < length c.args.a.now.lower = rw value at c.loop-entry-test.true in
     let is = rw value at c.entry-item.is in
     rw (p.1, p.2, w.1)
-        (sym (numerator_whole c.args.a.now (nat_abs c.args.denominator) (numerators_over (nat_abs c.args.denominator) c.args.a.now.lower) c.lower-entry-items.ensures.matrix) ∙ sym left
-        ∙ numerator_fails c.args.a.now.lower c.loop-entry.entry-index c.loop-entry.place (nat_abs c.args.denominator) c.entry-item.result (numerators_over (nat_abs c.args.denominator) c.args.a.now.lower) inside is w.0)
+    (sym (numerator_whole c.args.a.now (nat_abs c.args.denominator) (numerators_over (nat_abs c.args.denominator) c.args.a.now.lower) c.lower-entry-items.ensures.matrix) ∙ sym left
+    ∙ numerator_fails c.args.a.now.lower c.loop-entry.entry-index c.loop-entry.place (nat_abs c.args.denominator) c.entry-item.result (numerators_over (nat_abs c.args.denominator) c.args.a.now.lower) inside is w.0)
 
 pub loop-entry-preserved : goal.loop-entry-preserved
 loop-entry-preserved c =
@@ -55,5 +55,5 @@ returns-clause-ok c =
     let value = c.lower-entry-items.ensures.value in
     let all : length c.args.a.now.lower ≤ c.loop-entry.entry-index = rw value at c.loop-entry-test.false in
     sym (numerator_whole c.args.a.now (nat_abs c.args.denominator) (numerators_over (nat_abs c.args.denominator) c.args.a.now.lower) c.lower-entry-items.ensures.matrix) ∙ sym left
-        ∙ numerator_done c.args.a.now.lower c.loop-entry.entry-index c.loop-entry.place (nat_abs c.args.denominator) (numerators_over (nat_abs c.args.denominator) c.args.a.now.lower) all
-        ∙ over_all (nat_abs c.args.denominator) c.args.a.now.lower c.loop-entry.entry-index c.loop-entry.lower.items all so_far
+    ∙ numerator_done c.args.a.now.lower c.loop-entry.entry-index c.loop-entry.place (nat_abs c.args.denominator) (numerators_over (nat_abs c.args.denominator) c.args.a.now.lower) all
+    ∙ over_all (nat_abs c.args.denominator) c.args.a.now.lower c.loop-entry.entry-index c.loop-entry.lower.items all so_far

@@ -24,8 +24,8 @@ returns-clause-ok c =
     let fits : to_z w128 (of_z w128 c.den-2.result) ≡ c.den-2.result = search (rules, to_z-of_z) in
     let den : to_z w128 (of_z w128 c.den-2.result) ≡ pos c.args.fraction.den = fits ∙ c.den-2.ensures.value in
     on_ok_weaker c.push_number-2.result (λ e.
-      ratio-word c.args.fraction c.args.into.now.items c.push_number.new.into.items c.push.new.self.items c.push_number-2.new.into.items not_whole num c.in_ok-push.ensures.items
-        (e ∙ ap (λ (z : ℤ). c.push.new.self.items ++ signed_decimal z) den)) c.push_number-2.ensures.ok
+    ratio-word c.args.fraction c.args.into.now.items c.push_number.new.into.items c.push.new.self.items c.push_number-2.new.into.items not_whole num c.in_ok-push.ensures.items
+    (e ∙ ap (λ (z : ℤ). c.push.new.self.items ++ signed_decimal z) den)) c.push_number-2.ensures.ok
 
 pub returns-clause-kept : goal.returns-clause-kept
 returns-clause-kept c =

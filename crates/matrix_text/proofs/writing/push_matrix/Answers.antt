@@ -14,7 +14,7 @@ loop-row-init c =
     record {
       so_far = begin c.args.a.now c.args.into.now.items c.extend_from_slice.new.self.items c.push_number.new.into.items c.push.new.self.items c.in_ok-extend_from_slice.ensures.items two c.in_ok-push.ensures.items;
       kept = Extends-then c.args.into.now.items c.extend_from_slice.new.self.items c.push.new.self.items (Extends-append c.args.into.now.items _ c.extend_from_slice.new.self.items c.in_ok-extend_from_slice.ensures.items)
-        (Extends-then c.extend_from_slice.new.self.items c.push_number.new.into.items c.push.new.self.items c.push_number.ensures.kept (Extends-append c.push_number.new.into.items _ c.push.new.self.items c.in_ok-push.ensures.items));
+          (Extends-then c.extend_from_slice.new.self.items c.push_number.new.into.items c.push.new.self.items c.push_number.ensures.kept (Extends-append c.push_number.new.into.items _ c.push.new.self.items c.in_ok-push.ensures.items));
     }
 
 pub loop-row-preserved : goal.loop-row-preserved

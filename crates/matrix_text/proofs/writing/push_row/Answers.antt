@@ -23,4 +23,4 @@ returns-clause-ok c =
     let auto = c.loop-column.auto.column-end in
     let all : c.loop-column.column ≡ c.args.a.now.size = omega (arith, n, test, auto) in
     column_end (λ j. rational_entry c.args.a.now c.args.row j) c.args.a.now.size c.args.into.now.items c.loop-column.into.items c.push.new.self.items
-        (c.loop-column.invariant.so_far ∙ ap (λ k. c.args.into.now.items ++ columns (λ j. rational_entry c.args.a.now c.args.row j) k) all) c.in_ok-push.ensures.items
+    (c.loop-column.invariant.so_far ∙ ap (λ k. c.args.into.now.items ++ columns (λ j. rational_entry c.args.a.now c.args.row j) k) all) c.in_ok-push.ensures.items
