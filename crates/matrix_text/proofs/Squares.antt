@@ -6,6 +6,7 @@ use Rattle.std.proofs.lemmas.Bool.{and_parts, cases_eq, cases_lt, lt-ltb, le-ltb
 use Rattle.std.proofs.lemmas.List.{ext_get_or, get_or_append_left, get_or-append_right, get_or-take, length-take-le, drop_more, drop_all}
 use Rattle.std.proofs.lemmas.List.FromFn.{get_or-map-range_with_len, length-map-range_with_len, take-map-range_with_len, map-range_with_len_more}
 use Rattle.exact_forms.specs.Triangles.{triangle, entry_in}
+use Rattle.exact_forms.proofs.Triangles.{triangle_more, triangle_grows, entry_in_symmetric}
 use Rattle.matrix_text.specs.Square.{entry_at, lower_from, lower_of, full, mirrors, first_unlike}
 
 -- ---- what is tested at each place of a range
@@ -56,28 +57,12 @@ unfolding full entry_at
 entry_at-full none n lower i j a b =
     rw (get_or-map-range_with_len (λ i. map (λ j. entry_in none lower i j) (range_with_len 0 n)) 0 n i i [] a (omega arith)) (get_or-map-range_with_len (λ j. entry_in none lower i j) 0 n j j none b (omega arith))
 
-pub entry_in-mirror : {A : Type 0} (none : A) (lower : List A) (i j : ℕ) → entry_in none lower i j ≡ entry_in none lower j i
-unfolding entry_in
-entry_in-mirror none lower i j = elim (cases_lt i j) [
-  | inl lt ↦ rw (lt-ltb i j lt, le-ltb j i (omega arith)) refl
-  | inr le ↦ elim (cases_eq i j) [ inl same ↦ rw same refl | inr differ ↦ rw (le-ltb i j le, lt-ltb j i (omega arith)) refl ]
-]
-
 -- the rows of a lower triangle are mirrored
 pub full-mirrored : {A : Type 0} (none : A) (n : ℕ) (lower : List A) → IsMirrored none n (full none n lower)
 unfolding IsMirrored
-full-mirrored none n lower i j lt left = entry_at-full none n lower i j lt (omega arith) ∙ entry_in-mirror none lower i j ∙ sym (entry_at-full none n lower j i (omega arith) lt)
+full-mirrored none n lower i j lt left = entry_at-full none n lower i j lt (omega arith) ∙ entry_in_symmetric none lower i j ∙ sym (entry_at-full none n lower j i (omega arith) lt)
 
 -- ---- the lower triangle of rows
-
-triangle-grows : (s i : ℕ) → triangle s ≤ triangle (s + i)
-unfolding triangle
-triangle-grows s zero = (let same : s + 0 ≡ s = omega arith in rw same (omega arith))
-triangle-grows s (suc i) = (let same : s + suc i ≡ suc (s + i) = omega arith in rw same (let h = triangle-grows s i in omega (arith, h)))
-
-triangle-next : (s : ℕ) → triangle (s + 1) ≡ triangle s + (s + 1)
-unfolding triangle
-triangle-next s = (let same : s + 1 ≡ suc s = omega arith in rw same refl)
 
 -- an entry up to the diagonal stands in the lower triangle; s rows stand before these
 lower-entry : {A : Type 0} (none : A) (s : ℕ) (rows : List (List A)) (i j p : ℕ) → i < length rows → ((k : ℕ) → k < length rows → s + length rows ≤ length (get_or rows k []))
@@ -94,8 +79,8 @@ lower-entry none s (row ∷ rows) (suc i) j p lt long le at =
     let front : length (take (s + 1) row) ≡ s + 1 = length-take-le (s + 1) row (omega arith) in
     let same : s + suc i ≡ s + 1 + i = omega arith in
     let there : p + triangle s ≡ triangle (s + 1 + i) = rw same at at in
-    let grows = triangle-grows (s + 1) i in
-    let next = triangle-next s in
+    let grows = triangle_grows (s + 1) (s + 1 + i) (omega arith) in
+    let next = triangle_more s in
     let far : s + 1 ≤ p = omega (arith, there, grows, next) in
     let rest : p - (s + 1) + triangle (s + 1) ≡ triangle (s + 1 + i) = omega (arith, there, grows, next) in
     let moved : p + j - (s + 1) ≡ p - (s + 1) + j = omega arith in
@@ -110,7 +95,7 @@ lower-length s (row ∷ rows) long =
     let first : s + suc (length rows) ≤ length row = long 0 (omega arith) in
     let front : length (take (s + 1) row) ≡ s + 1 = length-take-le (s + 1) row (omega arith) in
     let rest = lower-length (s + 1) rows (λ k below. let h = long (suc k) (omega arith) in omega (arith, h)) in
-    let next = triangle-next s in
+    let next = triangle_more s in
     let same : s + suc (length rows) ≡ s + 1 + length rows = omega arith in
     rw (length-append (take (s + 1) row) (lower_from (s + 1 + 1) rows), front, same) (omega (arith, rest, next))
 
@@ -144,7 +129,7 @@ full-lower none n rows square mirror =
   where
     here : (i j : ℕ) → i < n → j < n → entry_in none (lower_of rows) i j ≡ entry_at none rows i j
     here i j lt left = elim (cases_lt i j) [
-      | inl above ↦ entry_in-mirror none (lower_of rows) i j ∙ entry_in-lower none n rows j i square left (omega arith) ∙ mirror j i left above
+      | inl above ↦ entry_in_symmetric none (lower_of rows) i j ∙ entry_in-lower none n rows j i square left (omega arith) ∙ mirror j i left above
       | inr le ↦ entry_in-lower none n rows i j square lt le
     ]
 
@@ -177,8 +162,8 @@ lower-full_from : {A : Type 0} (none : A) (lower : List A) (n s m : ℕ) → s +
 unfolding lower_from
 lower-full_from none lower n s zero e len = (let same : s ≡ n = omega arith in rw same (sym (drop_all (triangle n) lower (omega (arith, len)))))
 lower-full_from none lower n s (suc m) e len =
-    let next = triangle-next s in
-    let grows : triangle (s + 1) ≤ triangle (s + 1 + m) = triangle-grows (s + 1) m in
+    let next : triangle (s + 1) ≡ triangle s + (s + 1) = (let more = triangle_more s in omega (arith, more)) in
+    let grows : triangle (s + 1) ≤ triangle (s + 1 + m) = triangle_grows (s + 1) (s + 1 + m) (omega arith) in
     let last : s + 1 + m ≡ n = omega arith in
     let fits : triangle (s + 1) ≤ triangle n = rw last at grows in
     rw (row-part none lower s n (omega arith), lower-full_from none lower n (s + 1) m last len, next) (part none lower (triangle s) (s + 1) (omega (arith, next, fits, len)))

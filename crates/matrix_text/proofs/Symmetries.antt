@@ -1,35 +1,37 @@
 -- A table is compared with its mirror image, place by place.
-use Rattle.std.proofs.Common.{◌≡◌, ℕ, suc, ◌+◌, ◌-◌, ◌<◌, ◌≤◌, Bool, true, false, not, List, [], ◌∷◌, ◌++◌, length, get_or, take, Some, None, find, pos, refl, sym, ap, ◌∙◌, arith, append_assoc}
+use Rattle.std.proofs.Common.{◌≡◌, ℕ, suc, ◌+◌, ◌-◌, ◌<◌, ◌≤◌, Bool, true, false, not, List, [], ◌∷◌, ◌++◌, length, get_or, take, Some, None, find, refl, sym, ap, ◌∙◌, arith, append_assoc}
 use Rattle.std.specs.List.{list_all, range_with_len}
-use Rattle.std.specs.Ordering.{int_eq}
-use Rattle.std.proofs.lemmas.List.{get_or-map, get_or-take, length-take-le, length-map, take_more, take_all, append-nil}
-use Rattle.matrix_text.specs.declared.entry.Entry.{Entry}
+use Rattle.std.proofs.lemmas.List.{get_or-map, get_or-take, length-take-le, length-map, take_more, take_all, append-nil, get_or_default}
+use Rattle.exact_forms.specs.Rational.{Rational}
 use Rattle.matrix_text.specs.declared.table.Row.{Row}
 use Rattle.matrix_text.specs.declared.table.Table.{Table}
 use Rattle.matrix_text.specs.Square.{entry_at, lower_from, lower_of, mirrors, first_unlike}
-use Rattle.matrix_text.specs.Numerators.{row_numbers, numbers}
+use Rattle.matrix_text.specs.Matrix.{none, same_number}
+use Rattle.matrix_text.specs.Rows.{table_entries}
 use Rattle.matrix_text.proofs.Squares.{IsSquare}
 
-pub length-numbers : (t : Table) → length (numbers t) ≡ t.size
-unfolding numbers
-length-numbers t = length-map (take t.size t.rows) (row_numbers t.size) ∙ length-take-le t.size t.rows (let few = t.few in let room = t.room in omega (arith, few, room))
+-- what counts of a row
+abbrev row_entries : ℕ → Row → List Rational
+row_entries size row = take size row.entries
 
-pub row_at-numbers : (t : Table) (i : ℕ) (row : Row) → i < t.size → get_or (numbers t) i [] ≡ row_numbers t.size (get_or t.rows i row)
-unfolding numbers
-row_at-numbers t i row lt =
+pub length-entries : (t : Table) → length (table_entries t) ≡ t.size
+unfolding table_entries
+length-entries t = length-map (take t.size t.rows) (row_entries t.size) ∙ length-take-le t.size t.rows (let few = t.few in let room = t.room in omega (arith, few, room))
+
+row_at-entries : (t : Table) (i : ℕ) (row : Row) → i < t.size → get_or (table_entries t) i [] ≡ take t.size (get_or t.rows i row).entries
+unfolding table_entries
+row_at-entries t i row lt =
     let few = t.few in
     let room = t.room in
     let len : length (take t.size t.rows) ≡ t.size = length-take-le t.size t.rows (omega (arith, few, room)) in
-    get_or-map (row_numbers t.size) (take t.size t.rows) i row [] (omega (arith, len)) ∙ ap (row_numbers t.size) (get_or-take t.size t.rows i row lt)
+    get_or-map (row_entries t.size) (take t.size t.rows) i row [] (omega (arith, len)) ∙ ap (row_entries t.size) (get_or-take t.size t.rows i row lt)
 
-pub numerator_at : (t : Table) (i j : ℕ) (row : Row) (e : Entry) → i < t.size → j < t.size → (get_or (get_or t.rows i row).entries j e).num ≡ entry_at (pos 0) (numbers t) i j
+pub entry_at-entries : (t : Table) (i j : ℕ) (row : Row) (entry : Rational) → i < t.size → j < t.size → get_or (get_or t.rows i row).entries j entry ≡ entry_at none (table_entries t) i j
 unfolding entry_at
-numerator_at t i j row e lt left =
+entry_at-entries t i j row entry lt left =
     let few = t.few in
-    let entries = (get_or t.rows i row).entries in
     let room = (get_or t.rows i row).room in
-    let len : length (take t.size (get_or t.rows i row).entries) ≡ t.size = length-take-le t.size (get_or t.rows i row).entries (omega (arith, few, room)) in
-    rw (row_at-numbers t i row lt) (sym (get_or-map (λ (x : Entry). x.num) (take t.size (get_or t.rows i row).entries) j e (pos 0) (omega (arith, len)) ∙ ap (λ (x : Entry). x.num) (get_or-take t.size (get_or t.rows i row).entries j e left)))
+    rw (row_at-entries t i row lt) (get_or_default (get_or t.rows i row).entries j entry none (omega (arith, few, room)) ∙ sym (get_or-take t.size (get_or t.rows i row).entries j none left))
 
 -- ---- what is left to test
 
@@ -53,18 +55,18 @@ find_end p i n le = (let k : n - i ≡ 0 = omega arith in rw k refl)
 
 -- the entry at (i, j) is as that at (j, i)
 abbrev pub is_like : Table → ℕ → ℕ → Bool
-is_like t i j = int_eq (entry_at (pos 0) (numbers t) i j) (entry_at (pos 0) (numbers t) j i)
+is_like t i j = same_number (entry_at none (table_entries t) i j) (entry_at none (table_entries t) j i)
 
 abbrev pub is_unlike : Table → ℕ → Bool
-is_unlike t i = not (mirrors int_eq (pos 0) (numbers t) i)
+is_unlike t i = not (mirrors same_number none (table_entries t) i)
 
-pub likes : (t : Table) (i : ℕ) → list_all (is_like t i) (range_with_len 0 (i - 0)) ≡ mirrors int_eq (pos 0) (numbers t) i
+pub likes : (t : Table) (i : ℕ) → list_all (is_like t i) (range_with_len 0 (i - 0)) ≡ mirrors same_number none (table_entries t) i
 unfolding mirrors
 likes t i = (let k : i - 0 ≡ i = omega arith in rw k refl)
 
-pub unlikes : (t : Table) → find (is_unlike t) (range_with_len 0 (t.size - 0)) ≡ first_unlike int_eq (pos 0) (numbers t)
+pub unlikes : (t : Table) → find (is_unlike t) (range_with_len 0 (t.size - 0)) ≡ first_unlike same_number none (table_entries t)
 unfolding first_unlike
-unlikes t = (let k : t.size - 0 ≡ t.size = omega arith in rw (k, length-numbers t) refl)
+unlikes t = (let k : t.size - 0 ≡ t.size = omega arith in rw (k, length-entries t) refl)
 
 -- ---- the lower triangle
 
@@ -75,21 +77,18 @@ lower_more n (first ∷ rows) row =
     let k : n + suc (length rows) ≡ n + 1 + length rows = omega arith in
     rw (k, lower_more (n + 1) rows row) (sym (append_assoc (take n first) (lower_from (n + 1) rows) (take (n + 1 + length rows) row)))
 
-zero : Entry
-zero = record { num = pos 0; den = 1 }
-
 -- a row like any other
 empty : Row
-empty = record { line = 0; entries = zero ∷ zero ∷ zero ∷ zero ∷ zero ∷ zero ∷ []; room = refl }
+empty = record { line = 0; entries = none ∷ none ∷ none ∷ none ∷ none ∷ none ∷ []; room = refl }
 
-pub length-row : (t : Table) (i : ℕ) → i < t.size → length (get_or (numbers t) i []) ≡ t.size
+pub length-row : (t : Table) (i : ℕ) → i < t.size → length (get_or (table_entries t) i []) ≡ t.size
 length-row t i lt =
     let few = t.few in
     let room = (get_or t.rows i empty).room in
-    rw (row_at-numbers t i empty lt) (length-map (take t.size (get_or t.rows i empty).entries) (λ (x : Entry). x.num) ∙ length-take-le t.size (get_or t.rows i empty).entries (omega (arith, few, room)))
+    rw (row_at-entries t i empty lt) (length-take-le t.size (get_or t.rows i empty).entries (omega (arith, few, room)))
 
-pub square-numbers : (t : Table) → IsSquare t.size (numbers t)
-square-numbers t = record { len = length-numbers t; each = λ i lt. length-row t i lt }
+pub square-entries : (t : Table) → IsSquare t.size (table_entries t)
+square-entries t = record { len = length-entries t; each = λ i lt. length-row t i lt }
 
 -- an entry more of a row
 pub front_more : {A : Type 0} (none : A) (rows : List (List A)) (i j : ℕ) (x : A) (old mid new : List A) → j < length (get_or rows i []) → x ≡ entry_at none rows i j → mid ≡ old ++ take j (get_or rows i []) → new ≡ mid ++ x ∷ [] → new ≡ old ++ take (j + 1) (get_or rows i [])

@@ -1,5 +1,5 @@
 -- A text that is written is read as what was written.
-use Rattle.std.proofs.Common.{◌≡◌, ℕ, ◌+◌, ◌<◌, ◌≤◌, ◌^◌, Bool, true, false, ◌&&◌, ltb, List, [], ◌∷◌, ◌++◌, length, map, ℤ, Ok, codes, refl, ap, ◌∙◌, arith}
+use Rattle.std.proofs.Common.{◌≡◌, ℕ, ◌+◌, ◌<◌, ◌≤◌, ◌^◌, Bool, true, false, ◌&&◌, ltb, List, [], ◌∷◌, ◌++◌, length, map, Ok, codes, refl, ap, ◌∙◌, arith}
 use Rattle.std.specs.List.{All, AllByRecursion, flat_map}
 use Rattle.std.specs.Str.{all_ascii_digits}
 use Rattle.std.specs.Fmt.{decimal}
@@ -8,24 +8,35 @@ use Rattle.std.proofs.lemmas.List.Sums.{list_all-from_AllPass}
 use Rattle.std.proofs.lemmas.List.Elements.{All-append, All-cons, All-from_recursion}
 use Rattle.matrix_text.specs.Lines.{is_blank, is_line_feed, is_nonempty, words, lines, content_from, content_lines, end_line}
 use Rattle.matrix_text.specs.Matrix.{rows_of, header_of, size_of_word, is_ascii, in_line, table_of}
-use Rattle.matrix_text.specs.Spelling.{row_text, rows_text}
 use Rattle.matrix_text.proofs.Cuts.{IsWord, words-join, IsLine, lines-ended}
 use Rattle.matrix_text.proofs.Numerals.{is_whole-decimal, whole_value-decimal, All-decimal}
-use Rattle.matrix_text.proofs.Entries.{row_line, line-row, in_line-row, kept-row}
-use Rattle.matrix_text.specs.Canonical.{header_line, table_text, AreRows, IsTable, text_rows_from, IsReadBack}
+use Rattle.matrix_text.proofs.RoundTrip.{row_line, line-row, in_line-row, kept-row}
+use Rattle.exact_forms.specs.Rational.{Rational}
+use Rattle.matrix_text.specs.Matrix.{TextRow}
+use Rattle.matrix_text.specs.Canonical.{row_text, rows_text, header_line, table_text, IsShort}
+
+-- a row of n short entries
+pub record IsShortRow (n : ℕ) (row : List Rational) : Type 0 where
+  pub len : length row ≡ n
+  pub short : AllByRecursion IsShort row
+
+-- the rows as they are read, the first of them on this line
+abbrev pub text_rows_from : ℕ → List (List Rational) → List TextRow
+text_rows_from k [] = []
+text_rows_from k (row ∷ rows) = record { line = k; entries = row } ∷ text_rows_from (k + 1) rows
 
 content-nothing : (k : ℕ) → content_from k [] ≡ []
 unfolding content_from
 content-nothing k = refl
 
-content-rows : (n k : ℕ) (row : List ℤ) (rows : List (List ℤ)) → 0 < n → AreRows n row → content_from k (map row_line (row ∷ rows)) ≡ record { number = k; bytes = row_line row } ∷ content_from (k + 1) (map row_line rows)
+content-rows : (n k : ℕ) (row : List Rational) (rows : List (List Rational)) → 0 < n → IsShortRow n row → content_from k (map row_line (row ∷ rows)) ≡ record { number = k; bytes = row_line row } ∷ content_from (k + 1) (map row_line rows)
 unfolding content_from
-content-rows n k row rows some h = rw (kept-row row (omega (arith, h.len)) h.small) refl
+content-rows n k row rows some h = rw (kept-row row (omega (arith, h.len)) h.short) refl
 
-rows-read : (n end k : ℕ) (rows : List (List ℤ)) → 0 < n → AllByRecursion (AreRows n) rows → rows_of n end (length rows) (content_from k (map row_line rows)) ≡ Ok (text_rows_from k rows)
+rows-read : (n end k : ℕ) (rows : List (List Rational)) → 0 < n → AllByRecursion (IsShortRow n) rows → rows_of n end (length rows) (content_from k (map row_line rows)) ≡ Ok (text_rows_from k rows)
 unfolding rows_of
 rows-read n end k [] some h = ap (rows_of n end 0) (content-nothing k)
-rows-read n end k (row ∷ rows) some h = rw (content-rows n k row rows some h.0, in_line-row n k row h.0.len h.0.small, rows-read n end (k + 1) rows some h.1) refl
+rows-read n end k (row ∷ rows) some h = rw (content-rows n k row rows some h.0, in_line-row n k row h.0.len h.0.short, rows-read n end (k + 1) rows some h.1) refl
 
 -- ---- the header
 
@@ -73,28 +84,25 @@ content-header n k ls h = rw (words-header n h) refl
 
 -- ---- the text
 
-rows-lines : (n : ℕ) (rows : List (List ℤ)) → AllByRecursion (AreRows n) rows → AllByRecursion IsLine (map row_line rows)
+rows-lines : (n : ℕ) (rows : List (List Rational)) → AllByRecursion (IsShortRow n) rows → AllByRecursion IsLine (map row_line rows)
 rows-lines n [] h = tt
-rows-lines n (row ∷ rows) h = (line-row row h.0.small, rows-lines n rows h.1)
+rows-lines n (row ∷ rows) h = (line-row row h.0.short, rows-lines n rows h.1)
 
-rows-text : (rows : List (List ℤ)) → rows_text rows ≡ flat_map (λ line. line ++ 10 ∷ []) (map row_line rows)
+rows-text : (rows : List (List Rational)) → rows_text rows ≡ flat_map (λ line. line ++ 10 ∷ []) (map row_line rows)
 unfolding rows_text row_text
 rows-text [] = refl
 rows-text (row ∷ rows) = ap (λ (t : List ℕ). (row_line row ++ 10 ∷ []) ++ t) (rows-text rows)
 
-lines-table : (rows : List (List ℤ)) → length rows < 7 → AllByRecursion (AreRows (length rows)) rows → lines (table_text rows) ≡ header_line (length rows) ∷ map row_line rows
+lines-table : (rows : List (List Rational)) → length rows < 7 → AllByRecursion (IsShortRow (length rows)) rows → lines (table_text rows) ≡ header_line (length rows) ∷ map row_line rows
 unfolding table_text
 lines-table rows small h =
     ap lines (ap (λ (t : List ℕ). (header_line (length rows) ++ 10 ∷ []) ++ t) (rows-text rows)) ∙ lines-ended (header_line (length rows) ∷ map row_line rows) (line-header (length rows) (omega arith), rows-lines (length rows) rows h)
 
 -- what is written of a table is read as that table
-pub table-read : (rows : List (List ℤ)) → 0 < length rows → length rows < 7 → AllByRecursion (AreRows (length rows)) rows
+pub table-read : (rows : List (List Rational)) → 0 < length rows → length rows < 7 → AllByRecursion (IsShortRow (length rows)) rows
     → table_of (record { lines = content_lines (table_text rows); end = end_line (table_text rows) }) ≡ Ok (text_rows_from 2 rows)
 unfolding table_of content_lines
 table-read rows some small h =
     let n = length rows in
     let content : content_lines (table_text rows) ≡ record { number = 1; bytes = header_line (length rows) } ∷ content_from 2 (map row_line rows) = rw (lines-table rows small h) (content-header (length rows) 1 (map row_line rows) (omega arith)) in
     rw (content, in_line-header (length rows) 1 some small, rows-read (length rows) (end_line (table_text rows)) 2 rows some h) refl
-
-pub is_read_back : (rows : List (List ℤ)) → IsTable rows → IsReadBack rows
-is_read_back rows h = table-read rows h.some h.few h.each

@@ -1,25 +1,21 @@
-//! An entry as it is written.
+//! The fraction that a word writes.
 
 ghost use Rattle.std.specs.Prelude.{◌≡◌, ◌<◌, ◌^◌, position, if◌then◌else◌, pos, neg_ℤ};
 ghost use Rattle.matrix_text.specs.Matrix.{is_slash, ratio_of, entry_of};
 
 use crate::fault::TextKind;
 use crate::numbers::{Signed, signed_number, whole_number};
+use fraction128::Fraction;
 
-/// A fraction.
-#[derive(Clone, Copy, Debug, PartialEq, Eq)]
-pub struct Entry {
-    pub num: i64,
-    pub den: u64,
-}
-
+/// The largest numerator's magnitude and the largest denominator.
 const LARGEST: u128 = 9223372036854775807;
 
-fn value(number: Signed) -> i64
+/// A number with its sign.
+fn value(number: Signed) -> i128
     requires { number.magnitude < 2 ^ 63 }
     ensures { result ≡ (if number.negative then neg_ℤ (pos number.magnitude) else pos number.magnitude) }
 {
-    let magnitude = number.magnitude as i64;
+    let magnitude = number.magnitude as i128;
     if number.negative {
         -magnitude
     } else {
@@ -29,7 +25,7 @@ fn value(number: Signed) -> i64
 
 /// The fraction of two words, or what is wrong with them.
 #[tactic(auto, unfolding(crate::specs::Matrix::ratio_of))]
-fn ratio(top: &[u8], bottom: &[u8]) -> Result<Entry, TextKind>
+fn ratio(top: &[u8], bottom: &[u8]) -> Result<Fraction, TextKind>
     ensures { result ≡ ratio_of top.now bottom.now }
 {
     let Some(num) = signed_number(top) else {
@@ -44,10 +40,7 @@ fn ratio(top: &[u8], bottom: &[u8]) -> Result<Entry, TextKind>
     if den == 0 {
         return Err(TextKind::ZeroDenominator);
     }
-    Ok(Entry {
-        num: value(num),
-        den: den as u64,
-    })
+    Ok(Fraction::new(value(num), den as i128))
 }
 
 fn slash(word: &[u8]) -> Option<usize>
@@ -56,9 +49,9 @@ fn slash(word: &[u8]) -> Option<usize>
     word.iter().position(|b| *b == b'/')
 }
 
-/// The fraction that a word writes, or what is wrong with it.
+/// The fraction that a word writes, in lowest terms, or what is wrong with it.
 #[tactic(auto, unfolding(crate::specs::Matrix::entry_of))]
-pub fn entry_in(word: &[u8]) -> Result<Entry, TextKind>
+pub fn entry_in(word: &[u8]) -> Result<Fraction, TextKind>
     ensures { result ≡ entry_of word.now }
 {
     match slash(word) {

@@ -11,7 +11,8 @@ use crate::words::Words;
 #[tactic(auto, unfolding(crate::specs::Matrix::size_of_word))]
 fn size_in(word: &[u8]) -> Result<u8, TextKind>
     ensures value { result ≡ size_of_word word.now }
-    ensures small { IfOk result (λ size. size ≤ 6) }
+    ensures some { IfOk result (λ size. 1 ≤ size) }
+    ensures few { IfOk result (λ size. size ≤ 6) }
 {
     match whole_number(word) {
         Some(size @ 1..=6) => Ok(size as u8),
@@ -23,7 +24,8 @@ fn size_in(word: &[u8]) -> Result<u8, TextKind>
 #[tactic(auto, unfolding(crate::specs::Matrix::header_of))]
 pub fn header_size(line: &[u8]) -> Result<u8, TextKind>
     ensures value { result ≡ header_of (words line.now) }
-    ensures small { IfOk result (λ size. size ≤ 6) }
+    ensures some { IfOk result (λ size. 1 ≤ size) }
+    ensures few { IfOk result (λ size. size ≤ 6) }
 {
     let mut words = Words::of(line);
     match (words.next(), words.next(), words.next(), words.next()) {

@@ -1,20 +1,22 @@
-//! The rows of a text.
+//! The lines of a text: its header and its rows.
 
-ghost use Rattle.std.specs.Prelude.{◌≡◌, ◌≤◌, length, take, IfOk, List, Err};
-ghost use Rattle.matrix_text.specs.Lines.{words};
+ghost use Rattle.std.specs.Prelude.{◌≡◌, ◌+◌, ◌<◌, ◌≤◌, ◌^◌, length, take, IfOk, List, Err};
+ghost use Rattle.matrix_text.specs.Lines.{words, content_lines, end_line};
 ghost use Rattle.matrix_text.specs.Content.{line_of};
-ghost use Rattle.matrix_text.specs.Matrix.{Gives, row_of, rows_of, in_line, is_ascii, TextRow};
-ghost use Rattle.matrix_text.specs.Rows.{text_rows};
+ghost use Rattle.matrix_text.specs.Matrix.{Gives, row_of, rows_of, header_of, in_line, table_of, is_ascii, TextRow};
+ghost use Rattle.matrix_text.specs.Rows.{text_rows, table_rows};
 ghost use Rattle.matrix_text.specs.declared.fault.TextKind.TheVariants.{ExtraLine};
 
 use crate::content::{ContentLines, TextLine};
-use crate::entry::{Entry, entry_in};
-use crate::fault::{TextFault, TextKind};
-use crate::table::{EMPTY, MOST, Row, ZERO};
+use crate::entry::entry_in;
+use crate::fault::{TextFault, TextKind, fault};
+use crate::header::header_size;
+use crate::table::{MOST, Row, Table};
 use crate::words::Words;
+use fraction128::Fraction;
 
 /// Whether each byte of the line is below 128.
-pub fn is_ascii_line(line: &[u8]) -> bool
+fn is_ascii_line(line: &[u8]) -> bool
     ensures { result ≡ is_ascii line.now }
 {
     line.iter().all(|b| *b < 128)
@@ -22,12 +24,12 @@ pub fn is_ascii_line(line: &[u8]) -> bool
 
 /// The entries of a row.
 #[tactic(auto, using(crate::proofs::RowLemmas::row_steps))]
-pub fn row_in(line: &[u8], size: usize) -> Result<[Entry; MOST], TextKind>
+fn row_in(line: &[u8], size: usize) -> Result<[Fraction; MOST], TextKind>
     requires { size ≤ MOST }
     ensures { Gives (λ row. take size row) result (row_of size (words line.now)) }
 {
     let mut words = Words::of(line);
-    let mut row = [ZERO; MOST];
+    let mut row = [Fraction::whole(0); MOST];
     for column in 0..size {
         let Some(word) = words.next() else {
             return Err(TextKind::ShortRow);
@@ -38,13 +40,6 @@ pub fn row_in(line: &[u8], size: usize) -> Result<[Entry; MOST], TextKind>
         None => Ok(row),
         Some(_) => Err(TextKind::LongRow),
     }
-}
-
-/// A fault of a line.
-pub fn fault(kind: TextKind, line: u32) -> TextFault
-    ensures { result ≡ record { kind = kind; line = line } }
-{
-    TextFault { kind, line }
 }
 
 /// The row that a line writes.
@@ -80,12 +75,16 @@ fn extra_line(line: TextLine) -> TextFault
 
 /// The rows that the lines write, and no further line.
 #[tactic(auto, using(crate::proofs::TextRows::rows_steps))]
-pub fn rows_in(lines: ContentLines, size: usize) -> Result<[Row; MOST], TextFault>
+fn rows_in(lines: ContentLines, size: usize) -> Result<[Row; MOST], TextFault>
     requires { size ≤ MOST }
     ensures { Gives (λ rows. text_rows size rows) result (rows_of size lines.entry.end size lines.entry.lines) }
 {
     let mut lines = lines;
-    let mut rows = [EMPTY; MOST];
+    let empty = Row {
+        line: 0,
+        entries: [Fraction::whole(0); MOST],
+    };
+    let mut rows = [empty; MOST];
     for index in 0..size {
         match lines.next() {
             Ok(line) => rows[index] = row_at(line, size)?,
@@ -96,4 +95,35 @@ pub fn rows_in(lines: ContentLines, size: usize) -> Result<[Row; MOST], TextFaul
         Ok(line) => Err(extra_line(line)),
         Err(_) => Ok(rows),
     }
+}
+
+/// The size that the header's line names.
+#[tactic(auto, unfolding(crate::specs::Matrix::in_line))]
+fn size_at(line: TextLine) -> Result<u8, TextFault>
+    ensures value { Gives (λ size. size) result (in_line header_of (line_of line.entry)) }
+    ensures some { IfOk result (λ size. 1 ≤ size) }
+    ensures few { IfOk result (λ size. size ≤ 6) }
+{
+    if !is_ascii_line(line.bytes) {
+        return Err(fault(TextKind::NotAscii, line.number));
+    }
+    match header_size(line.bytes) {
+        Ok(size) => Ok(size),
+        Err(kind) => Err(fault(kind, line.number)),
+    }
+}
+
+/// The rows that a text writes, or its first fault but for NotSymmetric.
+#[tactic(auto, unfolding(crate::specs::Matrix::table_of))]
+pub fn read_table(text: &[u8]) -> Result<Table, TextFault>
+    requires { length text.now + 1 < 2 ^ 32 }
+    ensures { Gives (λ table. table_rows table) result (table_of (record { lines = content_lines text.now; end = end_line text.now })) }
+{
+    let mut lines = ContentLines::of(text);
+    let size = match lines.next() {
+        Ok(line) => size_at(line)?,
+        Err(end) => return Err(fault(TextKind::NoHeader, end)),
+    };
+    let rows = rows_in(lines, size as usize)?;
+    Ok(Table { size, rows })
 }

@@ -2,31 +2,25 @@
 
 ghost use Rattle.std.specs.Prelude.{◌≡◌, ◌≤◌, length};
 
-use crate::entry::Entry;
+use fraction128::Fraction;
 
 /// The largest size.
 pub const MOST: usize = 6;
-
-pub const ZERO: Entry = Entry { num: 0, den: 1 };
 
 /// A row, and the line where it stands.
 #[derive(Clone, Copy)]
 pub struct Row {
     pub line: u32,
-    pub entries: [Entry; MOST],
+    pub entries: [Fraction; MOST],
     ghost room: { length entries ≡ 6 },
 }
 
-pub const EMPTY: Row = Row {
-    line: 0,
-    entries: [ZERO; MOST],
-};
-
-/// The rows of a text, of which the first so many count, and of each as many entries.
+/// The rows of a text, of which the first `size` count, and of each as many entries.
 #[derive(Clone, Copy)]
 pub struct Table {
-    pub size: usize,
+    pub size: u8,
     pub rows: [Row; MOST],
+    ghost some: { 1 ≤ size },
     ghost few: { size ≤ 6 },
     ghost room: { length rows ≡ 6 },
 }

@@ -1,7 +1,0 @@
-use Rattle.std.proofs.Common.{◌≡◌, take}
-use Rattle.matrix_text.specs.Square.{lower_of}
-use Rattle.matrix_text.specs.Numerators.{numbers}
-use Rattle.matrix_text.proofs.symmetry.lower_numerators.Given as goal
-
-abbrev pub invariant-loop-row : goal.invariant-loop-row
-invariant-loop-row l = l.lower.items ≡ lower_of (take l.row (numbers l.table))
