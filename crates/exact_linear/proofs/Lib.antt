@@ -1,0 +1,15 @@
+pub mod Entries
+pub mod Zero
+pub mod Rows
+pub mod Cells
+pub mod Fill
+pub mod Results
+pub mod Places
+pub mod Exchanges
+pub mod Units
+pub mod StartTable
+pub mod Summed
+pub mod FirstBasis
+pub mod BringIn
+pub mod Spanning
+pub mod LowerEntries

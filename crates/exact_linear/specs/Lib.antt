@@ -1,0 +1,4 @@
+pub mod Tables
+pub mod Columns
+pub mod Exchange
+pub mod FirstBasis
