@@ -1,5 +1,3 @@
-pub mod Parts
-pub mod Binary
 pub mod Operations
 pub mod Products
 pub mod Sums

@@ -52,8 +52,8 @@ refused {V} op err ops v h = by (is_owed op) h
     by false k = absurd cc
 
 -- two numbers of 63 bits
-pub narrow_product : (l r : ℤ) → nat_abs l < 2 ^ 63 → nat_abs r < 2 ^ 63 → nat_abs (l *ℤ r) < 2 ^ 127
-narrow_product l r hl hr =
+pub small_product : (l r : ℤ) → nat_abs l < 2 ^ 63 → nat_abs r < 2 ^ 63 → nat_abs (l *ℤ r) < 2 ^ 127
+small_product l r hl hr =
     let le : nat_abs l * nat_abs r ≤ 2 ^ 63 * 2 ^ 63 = mul-le (nat_abs l) (nat_abs r) (2 ^ 63) (2 ^ 63) (omega arith) (omega arith) in
     let e : nat_abs (l *ℤ r) ≡ nat_abs l * nat_abs r = unsigned_abs-mul l r in
     rw e (omega arith)
@@ -65,19 +65,19 @@ below_63 n h = omega arith
 fits_wide : (z : ℤ) → nat_abs z < 2 ^ 127 → SFits w128 z
 fits_wide z h = fits_signed_from_abs w128 z h
 
-pub narrow_back : (z : ℤ) → nat_abs z < 2 ^ 63 → to_z w128 (of_z w128 (to_z w64 (of_z w64 (to_z w128 (of_z w128 z))))) ≡ z
-narrow_back z h =
+pub small_back : (z : ℤ) → nat_abs z < 2 ^ 63 → to_z w128 (of_z w128 (to_z w64 (of_z w64 (to_z w128 (of_z w128 z))))) ≡ z
+small_back z h =
     let wide : SFits w128 z = fits_wide z (below_63 (nat_abs z) h) in
-    let narrow : SFits w64 z = fits_signed_from_abs w64 z h in
+    let small : SFits w64 z = fits_signed_from_abs w64 z h in
     ap (λ (y : ℤ). to_z w128 (of_z w128 (to_z w64 (of_z w64 y)))) (to_z-of_z wide)
-    ∙ ap (λ (y : ℤ). to_z w128 (of_z w128 y)) (to_z-of_z narrow)
+    ∙ ap (λ (y : ℤ). to_z w128 (of_z w128 y)) (to_z-of_z small)
     ∙ to_z-of_z wide
 
-pub narrow_product_fits : (l r : ℤ) → nat_abs l < 2 ^ 63 → nat_abs r < 2 ^ 63 → SFits w128 (l *ℤ r)
-narrow_product_fits l r hl hr = fits_wide (l *ℤ r) (narrow_product l r hl hr)
+pub small_product_fits : (l r : ℤ) → nat_abs l < 2 ^ 63 → nat_abs r < 2 ^ 63 → SFits w128 (l *ℤ r)
+small_product_fits l r hl hr = fits_wide (l *ℤ r) (small_product l r hl hr)
 
-pub narrow_made : (l r : ℤ) → nat_abs l < 2 ^ 63 → nat_abs r < 2 ^ 63 → answer is_owed (mul_op l r ∷ []) (l *ℤ r) ≡ Ok (l *ℤ r)
-narrow_made l r hl hr = one_fits (mul_op l r) (narrow_product l r hl hr)
+pub small_made : (l r : ℤ) → nat_abs l < 2 ^ 63 → nat_abs r < 2 ^ 63 → answer is_owed (mul_op l r ∷ []) (l *ℤ r) ≡ Ok (l *ℤ r)
+small_made l r hl hr = one_fits (mul_op l r) (small_product l r hl hr)
 
 -- ---- other casts
 pub neg_back : (z : ℤ) → nat_abs z < 2 ^ 127 → to_z w128 (of_z w128 (pos 0 -ℤ to_z w128 (of_z w128 z))) ≡ neg_ℤ z

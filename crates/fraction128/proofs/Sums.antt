@@ -20,7 +20,7 @@ use Rattle.symmetric_matrix.specs.Owed.{answer}
 use Rattle.symmetric_matrix.specs.Operations.{is_owed, exact_result, mul_op, add_op}
 use Rattle.symmetric_matrix.proofs.Owed.{answer-append_err, answer-append_ok}
 use Rattle.fraction128.specs.Recipes.{sum_ops, add_ops}
-use Rattle.fraction128.proofs.Binary.{gcd_of_same}
+use Rattle.symmetric_matrix.proofs.BinaryDivisors.{gcd_of_same}
 use Rattle.fraction128.proofs.Operations.{IsMade, made, refused, passed_over, beyond}
 use Rattle.fraction128.proofs.Products.{divided_back, part_positive}
 

@@ -7,12 +7,13 @@ ghost use Rattle.exact_forms.specs.Lowest.{IsLowest};
 ghost use Rattle.exact_forms.proofs.Lowest.{lowest_parts};
 ghost use Rattle.symmetric_matrix.specs.Owed.{answer};
 ghost use Rattle.symmetric_matrix.specs.Operations.{is_owed};
+ghost use Rattle.symmetric_matrix.specs.Symmetric.{IsNarrow};
 ghost use Rattle.fraction128.specs.Recipes.{mul_ops, div_ops, sum_ops, add_ops, sub_ops};
 ghost use Rattle.fraction128.specs.Order.{order_of};
 
 use crate::divisor::common_divisor;
-use crate::narrow::{multiply, quotient};
 use crate::order::order_of_ratios;
+use crate::small::{multiply, quotient};
 use std::cmp::Ordering;
 use std::marker::Model;
 use symmetric_matrix::{IntOp, int_add};
@@ -43,7 +44,7 @@ impl Model for Fraction {
 impl Fraction {
     /// The fraction `num / den`, where `num` fits and `den` is at least 1.
     pub fn new(num: i128, den: i128) -> Fraction
-        requires fits { nat_abs num < 2 ^ 127 }
+        requires fits { IsNarrow num }
         requires positive { pos 1 ≤ℤ den }
         ensures { result ≡ ratio num (nat_abs den) }
     {
@@ -56,7 +57,7 @@ impl Fraction {
 
     /// The whole number `num`, which fits.
     pub fn whole(num: i128) -> Fraction
-        requires { nat_abs num < 2 ^ 127 }
+        requires { IsNarrow num }
         ensures { result ≡ whole num }
     {
         Fraction { num, den: 1 }
@@ -65,7 +66,7 @@ impl Fraction {
     /// The numerator in lowest terms.
     pub fn num(&self) -> i128
         ensures value { result ≡ self.now.num }
-        ensures fits { nat_abs result < 2 ^ 127 }
+        ensures fits { IsNarrow result }
     {
         self.num
     }
@@ -73,11 +74,12 @@ impl Fraction {
     /// The denominator in lowest terms, at least 1.
     pub fn den(&self) -> i128
         ensures value { result ≡ pos self.now.den }
-        ensures fits { self.now.den < 2 ^ 127 }
+        ensures fits { IsNarrow result }
     {
         self.den
     }
 
+    /// The opposite number.
     pub fn neg(self) -> Fraction
         ensures { result ≡ neg_ℚ self }
     {
@@ -87,6 +89,7 @@ impl Fraction {
         }
     }
 
+    /// Whether the fraction is 0.
     pub fn is_zero(&self) -> bool
         ensures { IsTrue result ↔ (self.now ≡ whole (pos 0)) }
     {
@@ -101,7 +104,10 @@ impl Fraction {
         order_of_ratios(self.num, self.den, other.num, other.den)
     }
 
-    /// The sum, or the first operation of `add_ops` that does not fit.
+    /// The sum a/b + c/d, or the first operation of its recipe that does not fit.
+    ///
+    /// With g = gcd(b, d) these are u = a·(d/g), v = c·(b/g), t = u + v, and with h = gcd(t, g) the denominator
+    /// (b/g)·(d/h). The numerator is t/h.
     pub fn add(self, other: Fraction) -> Result<Fraction, IntOp>
         ensures { result ≡ answer is_owed (add_ops self other) (self +ℚ other) }
     {
@@ -128,14 +134,16 @@ impl Fraction {
         Ok(Fraction::new(sum, self.den))
     }
 
-    /// The difference, or the first operation of `sub_ops` that does not fit.
+    /// The difference, or the first operation that does not fit: those of the sum with the opposite of `other`.
     pub fn sub(self, other: Fraction) -> Result<Fraction, IntOp>
         ensures { result ≡ answer is_owed (sub_ops self other) (self -ℚ other) }
     {
         self.add(other.neg())
     }
 
-    /// The product, or the first operation of `mul_ops` that does not fit.
+    /// The product of a/b and c/d, or the first operation of its recipe that does not fit.
+    ///
+    /// With g = gcd(a, d) and h = gcd(c, b) these are the numerator (a/g)·(c/h) and the denominator (b/h)·(d/g).
     pub fn mul(self, other: Fraction) -> Result<Fraction, IntOp>
         ensures { result ≡ answer is_owed (mul_ops self other) (self *ℚ other) }
     {
@@ -146,7 +154,8 @@ impl Fraction {
         Ok(Fraction { num, den })
     }
 
-    /// The quotient, or the first operation of `div_ops` that does not fit. `other` is not zero.
+    /// The quotient, or the first operation that does not fit: those of the product with `other` turned over, its
+    /// sign moved to the numerator. `other` is not zero.
     pub fn div(self, other: Fraction) -> Result<Fraction, IntOp>
         requires { other ≢ whole (pos 0) }
         ensures { result ≡ answer is_owed (div_ops self other) (self /ℚ other) }
@@ -181,3 +190,6 @@ fn sum_of_products(a: i128, x: i128, b: i128, y: i128) -> Result<i128, IntOp>
     let right = multiply(b, y)?;
     int_add(left, right)
 }
+
+#[cfg(test)]
+mod tests;

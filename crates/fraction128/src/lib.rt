@@ -3,8 +3,8 @@
 
 mod divisor;
 mod fraction;
-mod narrow;
 mod order;
+mod small;
 mod weighted;
 
 pub use fraction::Fraction;

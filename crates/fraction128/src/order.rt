@@ -3,10 +3,10 @@
 ghost use Rattle.std.specs.Prelude.{◌≡◌, ◌<◌, ◌*◌, pos, ◌≤ℤ◌, ◌*ℤ◌};
 ghost use Rattle.std.specs.Ordering.{nat_cmp, int_cmp};
 
-use crate::narrow::{is_narrow, narrow_product};
+use crate::small::{is_small, small_product};
 use std::cmp::Ordering;
 
-/// a/b against c/d. In narrow numbers it multiplies crosswise.
+/// a/b against c/d. In small numbers it multiplies crosswise.
 pub fn order_of_ratios(a: i128, b: i128, c: i128, d: i128) -> Ordering
     requires left { pos 1 ≤ℤ b }
     requires right { pos 1 ≤ℤ d }
@@ -14,8 +14,8 @@ pub fn order_of_ratios(a: i128, b: i128, c: i128, d: i128) -> Ordering
 {
     if b == d {
         a.cmp(&c)
-    } else if is_narrow(a) && is_narrow(b) && is_narrow(c) && is_narrow(d) {
-        narrow_product(a, d).cmp(&narrow_product(c, b))
+    } else if is_small(a) && is_small(b) && is_small(c) && is_small(d) {
+        small_product(a, d).cmp(&small_product(c, b))
     } else {
         order_of_wide_ratios(a, b, c, d)
     }

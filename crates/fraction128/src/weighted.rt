@@ -78,3 +78,24 @@ impl Terms {
         &self.items[k]
     }
 }
+
+#[cfg(test)]
+mod tests {
+    use super::*;
+
+    #[test]
+    fn terms_are_kept_in_order(rt: HostRuntime) {
+        let alloc = rt.alloc();
+        let mut terms = Terms::new(alloc);
+        let weight = Fraction::whole(3);
+        assert!(&rt; 0 < weight.num());
+        let term = Term {
+            weight,
+            vector: IntVector::from_slice(alloc, &[0, 2]),
+        };
+        assert!(&rt; terms.push(term).is_ok());
+        assert_eq!(&rt; terms.len(), 1);
+        assert!(&rt; terms.at(0).weight == Fraction::whole(3));
+        assert_eq!(&rt; terms.at(0).vector.at(2), 2);
+    }
+}

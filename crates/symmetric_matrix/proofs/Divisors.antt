@@ -1,8 +1,7 @@
 -- Laws of greatest common divisors.
-use Rattle.std.specs.Prelude.{◌≡◌, ℕ, zero, suc, ◌+◌, ◌<◌, ◌≤◌, ◌⊎◌, ◌%◌, ℤ, pos, nat_abs, List, [], ◌∷◌, length, drop, slice_index_or}
+use Rattle.std.specs.Prelude.{◌≡◌, ℕ, zero, suc, ◌+◌, ◌<◌, ◌≤◌, ◌⊎◌, ℤ, pos, nat_abs, List, [], ◌∷◌, length, drop, slice_index_or}
 use Rattle.std.specs.List.{All}
-use Rattle.std.specs.Int.{IsGcd}
-use Rattle.std.proofs.Common.{arith, sym, ◌∙◌, ap, ap₂, subst, refl, inl, inr, lt_of_le_of_lt, add-one, drop-cons, drop_of_length-le}
+use Rattle.std.proofs.Common.{arith, ◌∙◌, ap, ap₂, refl, inl, inr, lt_of_le_of_lt, add-one, drop-cons, drop_of_length-le}
 use Rattle.std.proofs.lemmas.Nat.Gcd.{dvd-zero, dvd_trans, dvd_refl}
 use Prim.Native.Nat.{◌∣◌}
 use native.Mathlib.Nat.{zero-mod}

@@ -1,24 +1,23 @@
 -- The steps of forms and inner products over a lower triangle.
-use Rattle.std.specs.Prelude.{◌≡◌, ◌≢◌, ◌⊎◌, ℕ, zero, suc, ◌+◌, ◌*◌, ◌^◌, ◌<◌, ◌≤◌, nat_eq, if◌then◌else◌, Bool, true, false, ℤ, pos, ◌+ℤ◌, ◌*ℤ◌, List, [], ◌∷◌, length, map, drop, slice_index_or, Result, Ok, Err}
-use Rattle.std.proofs.Common.{arith, sym, ◌∙◌, ap, ap₂, refl, inl, inr, mul-le-mul, eq-eqb, ne_eqb}
+use Rattle.std.specs.Prelude.{◌≡◌, ℕ, ◌+◌, ◌*◌, ◌^◌, ◌<◌, ◌≤◌, nat_eq, if◌then◌else◌, Bool, true, false, ℤ, pos, ◌+ℤ◌, ◌*ℤ◌, List, [], ◌∷◌, length, map, drop, slice_index_or, Ok, Err}
+use Rattle.std.proofs.Common.{arith, sym, ◌∙◌, ap, ap₂, refl, mul-le-mul}
 use Rattle.std.proofs.lemmas.Int.{to_z_pos}
 use Rattle.std.proofs.lemmas.List.{length-map, get_or-map}
 use mir.Val.{to_z}
 use mir.Syntax.{w128}
-use Rattle.commutative_ring.proofs.Ring.{int_ring, ring, num, ◌⊕◌, ◌⊗◌, v0, v1, v2, v3}
+use Rattle.commutative_ring.proofs.Ring.{int_ring, ring, ◌⊗◌, v0, v1, v2, v3}
 use Rattle.exact_forms.specs.Triangles.{triangle}
-use Rattle.exact_forms.specs.Forms.{form, inner}
+use Rattle.exact_forms.specs.Forms.{form}
 use Rattle.exact_forms.specs.Vectors.{coordinate}
-use Rattle.exact_forms.proofs.Forms.{bilinear_is, inner_is}
-use Rattle.exact_forms.proofs.Triangles.{triangle_more, row_before, entry_symmetric}
+use Rattle.exact_forms.proofs.Forms.{bilinear_is}
+use Rattle.exact_forms.proofs.Triangles.{triangle_more, row_before}
 use Rattle.symmetric_matrix.specs.declared.operation.IntOp.{IntOp}
-use Rattle.symmetric_matrix.specs.Lists.{IsVector}
 use Rattle.symmetric_matrix.specs.Owed.{answer}
 use Rattle.symmetric_matrix.specs.Operations.{is_owed, mul_op, add_op}
 use Rattle.symmetric_matrix.specs.Symmetric.{Symmetric, entry}
-use Rattle.symmetric_matrix.specs.Recipes.{Place, triangle_places, multiplicity, Product, product_ops, form_product, form_ops, inner_product, inner_ops}
+use Rattle.symmetric_matrix.specs.Recipes.{triangle_places, multiplicity, Product, product_ops, form_product, form_ops}
 use Rattle.symmetric_matrix.proofs.Places.{entry_at, entry_flip}
-use Rattle.symmetric_matrix.proofs.TrianglePlaces.{place, length-triangle_places, triangle_place_at, sum_by_places, places_sum, multiplicity_on, multiplicity_beside}
+use Rattle.symmetric_matrix.proofs.TrianglePlaces.{place, length-triangle_places, triangle_place_at, sum_by_places}
 use Rattle.symmetric_matrix.proofs.Telescopes.{list_sum, list_sum_same}
 use Rattle.symmetric_matrix.proofs.Recipes.{product_of, sum_answer, sum_refused, sum_continues, sum_ends, sum_answer_is}
 

@@ -1,16 +1,16 @@
 -- The steps of inner products over two lower triangles.
-use Rattle.std.specs.Prelude.{◌≡◌, ℕ, ◌+◌, ◌*◌, ◌<◌, ◌≤◌, nat_eq, if◌then◌else◌, ℤ, pos, ◌+ℤ◌, ◌*ℤ◌, List, [], ◌∷◌, length, map, drop, slice_index_or, Result, Ok, Err}
+use Rattle.std.specs.Prelude.{◌≡◌, ℕ, ◌+◌, ◌<◌, ◌≤◌, ℤ, pos, ◌+ℤ◌, ◌*ℤ◌, List, [], ◌∷◌, length, map, drop, slice_index_or, Ok, Err}
 use Rattle.std.proofs.Common.{arith, sym, ◌∙◌, ap, ap₂, refl}
 use Rattle.std.proofs.lemmas.List.{length-map, get_or-map}
-use Rattle.commutative_ring.proofs.Ring.{int_ring, ring, num, ◌⊕◌, ◌⊗◌, v0, v1, v2, v3}
+use Rattle.commutative_ring.proofs.Ring.{int_ring, ring, ◌⊗◌, v0, v1, v2}
 use Rattle.exact_forms.specs.Triangles.{triangle}
 use Rattle.exact_forms.specs.Forms.{inner}
 use Rattle.exact_forms.proofs.Forms.{inner_is}
 use Rattle.symmetric_matrix.specs.declared.operation.IntOp.{IntOp}
 use Rattle.symmetric_matrix.specs.Owed.{answer}
 use Rattle.symmetric_matrix.specs.Operations.{is_owed, mul_op, add_op}
-use Rattle.symmetric_matrix.specs.Symmetric.{Symmetric, entry}
-use Rattle.symmetric_matrix.specs.Recipes.{Place, triangle_places, multiplicity, Product, product_ops, inner_product, inner_ops}
+use Rattle.symmetric_matrix.specs.Symmetric.{entry}
+use Rattle.symmetric_matrix.specs.Recipes.{triangle_places, multiplicity, Product, product_ops, inner_product, inner_ops}
 use Rattle.symmetric_matrix.proofs.Places.{entry_at, entry_flip}
 use Rattle.symmetric_matrix.proofs.TrianglePlaces.{place, length-triangle_places, triangle_place_at, sum_by_places}
 use Rattle.symmetric_matrix.proofs.Telescopes.{list_sum, list_sum_same}

@@ -10,3 +10,4 @@ pub mod Recipes
 pub mod FormSteps
 pub mod InnerSteps
 pub mod Divisors
+pub mod BinaryDivisors

@@ -1,10 +1,10 @@
 -- Where an entry stands in a lower triangle.
 use Rattle.std.specs.Prelude.{◌≡◌, ℕ, zero, suc, ◌+◌, ◌-◌, ◌*◌, ◌/◌, ◌<◌, ◌≤◌, ◌⊎◌, ℤ, pos, length, slice_index_or, min, max}
-use Rattle.std.proofs.Common.{arith, sym, ◌∙◌, ap, refl, inl, inr}
+use Rattle.std.proofs.Common.{arith, sym, ◌∙◌, ap, inl, inr}
 use Rattle.std.proofs.lemmas.List.{get_or_default}
 use Rattle.exact_forms.specs.Triangles.{triangle}
 use Rattle.exact_forms.proofs.Triangles.{twice_triangle, entry_before, entry_in_below, entry_in_symmetric}
-use Rattle.symmetric_matrix.specs.Symmetric.{Symmetric, IsNarrow, IsLower, IsSymmetricMatrix, entry}
+use Rattle.symmetric_matrix.specs.Symmetric.{Symmetric, IsNarrow, IsSymmetricMatrix, entry}
 
 pub half_is_triangle : (r : ℕ) → r * (r - 1) / 2 ≡ triangle (r - 1)
 half_is_triangle zero = let e = twice_triangle 0 in omega arith

@@ -1,13 +1,13 @@
 -- The steps of a sum of products.
-use Rattle.std.specs.Prelude.{◌≡◌, ℕ, zero, suc, ◌+◌, ◌*◌, ◌<◌, ◌≤◌, ℤ, pos, ◌+ℤ◌, ◌*ℤ◌, List, [], ◌∷◌, ◌++◌, length, map, drop, slice_index_or, Result, Ok, Err}
-use Rattle.std.proofs.Common.{arith, sym, ◌∙◌, ap, ap₂, refl, add-one, drop-cons, drop_of_length-le}
-use Rattle.commutative_ring.proofs.Ring.{int_ring, ring, num, ◌⊕◌, ◌⊗◌, v0, v1, v2, v3, v4}
+use Rattle.std.specs.Prelude.{◌≡◌, ℕ, ◌+◌, ◌<◌, ◌≤◌, ℤ, pos, ◌+ℤ◌, ◌*ℤ◌, List, [], ◌∷◌, ◌++◌, length, drop, slice_index_or, Result, Ok, Err}
+use Rattle.std.proofs.Common.{sym, ◌∙◌, ap, refl, add-one, drop-cons, drop_of_length-le}
+use Rattle.commutative_ring.proofs.Ring.{int_ring, ring, num, ◌⊕◌, ◌⊗◌, v0, v1, v2, v3}
 use Rattle.symmetric_matrix.specs.declared.operation.IntOp.{IntOp}
 use Rattle.symmetric_matrix.specs.Owed.{answer}
 use Rattle.symmetric_matrix.specs.Operations.{is_owed, mul_op, add_op}
 use Rattle.symmetric_matrix.specs.Recipes.{Product, product_ops, sum_ops}
 use Rattle.symmetric_matrix.proofs.Owed.{answer_nothing, answer-append_err, answer-append_ok}
-use Rattle.symmetric_matrix.proofs.Telescopes.{list_sum, list_sum_none}
+use Rattle.symmetric_matrix.proofs.Telescopes.{list_sum}
 
 abbrev pub product_of : Product → ℤ
 product_of p = p.left *ℤ p.right

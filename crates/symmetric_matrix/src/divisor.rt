@@ -1,6 +1,6 @@
 //! Greatest common divisors.
 
-ghost use Rattle.std.specs.Prelude.{◌≡◌, ℕ, ◌<◌, ◌≤◌, ◌^◌, pos, nat_abs, length, slice_index_or};
+ghost use Rattle.std.specs.Prelude.{◌≡◌, ℕ, ◌<◌, ◌≤◌, ◌^◌, ◌%◌, pos, nat_abs, length, slice_index_or};
 ghost use Rattle.std.specs.Int.{IsGcd};
 ghost use Rattle.commutative_ring.specs.Gcd.{gcd_of};
 ghost use Rattle.symmetric_matrix.specs.Divisors.{divisor_from};
@@ -52,12 +52,30 @@ const LARGEST_NARROW: u128 = 18446744073709551615;
 fn gcd_narrow(left: u64, right: u64) -> u64
     ensures { result ≡ gcd_of left right }
 {
+    if left == 0 {
+        return right;
+    }
+    if right == 0 {
+        return left;
+    }
+    let twos = left.trailing_zeros();
+    let more = right.trailing_zeros();
+    gcd_of_odd(left >> twos, right >> more) << twos.min(more)
+}
+
+// The binary algorithm, which takes half the time of Euclid's: the difference of two odd numbers is even, and its
+// factors 2 are no common ones.
+fn gcd_of_odd(left: u64, right: u64) -> u64
+    requires left { left % 2 ≡ 1 }
+    requires right { right % 2 ≡ 1 }
+    ensures { result ≡ gcd_of left right }
+{
     let mut a = left;
     let mut b = right;
-    while b != 0 {
-        let rest = a % b;
-        a = b;
-        b = rest;
+    while a != b {
+        let gap = a.abs_diff(b);
+        b = a.min(b);
+        a = gap >> gap.trailing_zeros();
     }
     a
 }

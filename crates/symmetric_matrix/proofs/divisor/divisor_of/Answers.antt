@@ -1,4 +1,4 @@
-use Rattle.std.proofs.Common.{◌≡◌, ◌<◌, ◌^◌, ◌∙◌, sym, ap, arith, to_z-of_z, nat_abs, pos, slice_index_or, rules, SFits, drop, ℕ, ℤ, ◌+◌, refl}
+use Rattle.std.proofs.Common.{◌≡◌, ◌<◌, ◌^◌, ◌∙◌, sym, ap, arith, to_z-of_z, nat_abs, pos, slice_index_or, SFits, drop, ℕ, ℤ, ◌+◌, refl}
 use Rattle.std.proofs.lemmas.Int.{fits_signed_from_abs}
 use mir.Syntax.{w128}
 use Rattle.commutative_ring.specs.Gcd.{gcd_of}

@@ -1,4 +1,4 @@
-use Rattle.std.proofs.Common.{◌≡◌, ◌+◌, arith, to_z-of_z, to_z, of_z, pos, drop, length, refl, sym, ◌∙◌, slice_index_or, rules, SFits}
+use Rattle.std.proofs.Common.{◌≡◌, ◌+◌, arith, to_z-of_z, to_z, of_z, pos, drop, length, refl, slice_index_or}
 use mir.Syntax.{w128}
 use Rattle.exact_forms.proofs.Triangles.{triangle-zero}
 use Rattle.symmetric_matrix.proofs.FormSteps.{in_row, next_in_row, next_row, form_products, form_refused, form_continues, form_ends, form_answer_is}

@@ -39,7 +39,8 @@ common_divisor-divisor-requires-clause-value c =
     let r = parts_of c.other.inside.num c.other.inside.den c.args.other c.other.invariant c.other.view_is in
     let h : answer is_owed (sum_ops c.args.self.num (pos (its c.args.self c.args.other)) c.args.other.num (pos (own c.args.self c.args.other))) (total c.args.self c.args.other) ≡ Ok c.in_ok-sum.sum = grind (arith, to_z-of_z) in
     let f : SFits w128 c.in_ok-sum.sum = search rules in
-    rw (to_z-of_z f) (sum_made c.args.self.num (pos (its c.args.self c.args.other)) c.args.other.num (pos (own c.args.self c.args.other)) c.in_ok-sum.sum h).fits
+    let fits = (sum_made c.args.self.num (pos (its c.args.self c.args.other)) c.args.other.num (pos (own c.args.self c.args.other)) c.in_ok-sum.sum h).fits in
+    rw (to_z-of_z f) (omega arith)
 
 pub quotient-requires-2 : goal.quotient-requires-2
 quotient-requires-2 c = grind (arith, to_z-of_z, gcd_at_least_one)

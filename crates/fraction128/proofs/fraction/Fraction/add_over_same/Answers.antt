@@ -32,7 +32,7 @@ new-requires-clause-fits c =
     let h : answer is_owed (add_op c.args.self.num c.args.other.num ∷ []) (c.args.self.num +ℤ c.args.other.num) ≡ Ok c.in_ok-sum.sum = grind (arith, to_z-of_z) in
     let m = same_den_made c.args.self c.args.other c.in_ok-sum.sum c.requires hx hy hd h in
     let s : SFits w128 c.in_ok-sum.sum = search rules in
-    rw (to_z-of_z s) m.fits
+    rw (to_z-of_z s) (omega (arith, m.fits))
 
 pub returns : goal.returns
 returns c =

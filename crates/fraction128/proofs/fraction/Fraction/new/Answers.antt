@@ -10,7 +10,7 @@ pub quotient-requires-2 : goal.quotient-requires-2
 quotient-requires-2 c = grind (arith, to_z-of_z, gcd_at_least_one)
 
 pub invariant_of-result : goal.invariant_of-result
-invariant_of-result c = let p = lowest_of_parts c.args.num c.args.den c.requires.positive c.requires.fits in grind (arith, to_z-of_z)
+invariant_of-result c = let p = lowest_of_parts c.args.num c.args.den c.requires.positive (omega (arith, c.requires.fits)) in grind (arith, to_z-of_z)
 
 pub returns : goal.returns
-returns c = let p = lowest_of_parts c.args.num c.args.den c.requires.positive c.requires.fits in grind (arith, to_z-of_z)
+returns c = let p = lowest_of_parts c.args.num c.args.den c.requires.positive (omega (arith, c.requires.fits)) in grind (arith, to_z-of_z)

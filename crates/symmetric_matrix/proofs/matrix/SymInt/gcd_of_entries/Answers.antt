@@ -1,4 +1,4 @@
-use Rattle.std.proofs.Common.{◌≡◌, arith, ap, sym, ◌∙◌, subst, nat_abs, pos, ℤ, ℕ, List, to_z}
+use Rattle.std.proofs.Common.{◌≡◌, ap, sym, ◌∙◌, subst, nat_abs, ℕ, to_z}
 use Rattle.std.proofs.lemmas.Int.{to_z_pos}
 use mir.Syntax.{w128}
 use Rattle.symmetric_matrix.specs.Divisors.{divisor_from, IsGreatestDivisor}

@@ -1,0 +1,10 @@
+pub mod LineLemmas
+pub mod Endings
+pub mod Fronts
+pub mod TermLines
+pub mod StartTerms
+pub mod AnswerLaws
+pub mod FaultPlaces
+pub mod NearFaults
+pub mod OneWay
+pub mod Solve

@@ -1,0 +1,10 @@
+pub mod Ending
+pub mod Lines
+pub mod Texts
+pub mod Endings
+pub mod Terms
+pub mod StartCone
+pub mod Answers
+pub mod Reading
+pub mod Commands
+pub mod Requests

@@ -1,0 +1,21 @@
+//! The program's commands, from the words of the command line to the text of the answer.
+#![tactic(auto)]
+
+mod command;
+mod ended;
+mod factorization;
+mod line;
+mod program;
+mod refuse;
+mod solving;
+mod start;
+mod term;
+#[cfg(test)]
+mod tests;
+mod words;
+
+pub use command::{Command, Usage};
+pub use ended::{Cause, Ended, Lacking, Status};
+pub use program::run;
+pub use solving::solve_alone;
+pub use words::{read_words, words_are_read_one_way};

@@ -1,0 +1,60 @@
+-- The numbers of a mediant as loops make them.
+use Rattle.std.specs.Prelude.{◌≡◌, ◌≢◌, ◌⊎◌, ℕ, ◌<◌, ◌≤◌, ◌+◌, ◌^◌, ℤ, pos, ◌+ℤ◌, nat_abs, FitsSigned, List, length, slice_index_or, slice_set}
+use Rattle.std.specs.Int.{w128}
+use Rattle.std.proofs.Common.{arith, to_z, of_z, sym, ◌∙◌, ap, inl, inr, get_or-set_other, get_or-set_same}
+use Rattle.std.proofs.lemmas.Int.{ints, to_z-of_z}
+use Rattle.exact_forms.proofs.Slacks.{same_or_not}
+use Rattle.unimodular_cone.specs.Cones.{child_gram}
+use Rattle.unimodular_cone.specs.Shown.{ShownCone, shown_gram, IsWithinLimits}
+use Rattle.unimodular_cone.specs.Mediant.{IsRowOf}
+use Rattle.unimodular_cone.proofs.Additions.{child_gram_row, child_gram_square}
+use Rattle.unimodular_cone.proofs.ShownLaws.{gram_within}
+
+-- one more entry of a list is written
+pub more_set : {A : Type 0} (none : A) (xs : List A) (f : ℕ → A) (i at : ℕ) (v : A) → ((k : ℕ) → k < i → slice_index_or xs k none ≡ f k)
+    → i < length xs → at ≡ i → v ≡ f i → (k : ℕ) → k < i + 1 → slice_index_or (slice_set xs at v) k none ≡ f k
+more_set none xs f i at v before room e is k l = rw e (by (last k i l))
+  where
+    last : (k i : ℕ) → k < i + 1 → (k < i) ⊎ (k ≡ i)
+    last k i l = grind arith
+
+    by : ((k < i) ⊎ (k ≡ i)) → slice_index_or (slice_set xs i v) k none ≡ f k
+    by (inl lt) = get_or-set_other xs i k v none (λ same. absurd (omega arith)) ∙ before k lt
+    by (inr same) = ap (λ (w : ℕ). slice_index_or (slice_set xs i v) w none) same ∙ get_or-set_same xs i v none room ∙ is ∙ ap f (sym same)
+
+pub sum_fits : (a b : ℤ) → nat_abs a ≤ 2 ^ 101 → nat_abs b ≤ 2 ^ 101 → FitsSigned w128 (a +ℤ b)
+sum_fits a b h k = omega (arith, ints)
+
+pub sum_small : (a b : ℤ) → nat_abs a ≤ 2 ^ 100 → nat_abs b ≤ 2 ^ 100 → nat_abs (a +ℤ b) ≤ 2 ^ 101
+sum_small a b h k = omega (arith, ints)
+
+pub larger : (a : ℤ) → nat_abs a ≤ 2 ^ 100 → nat_abs a ≤ 2 ^ 101
+larger a h = omega arith
+
+small_fits : (a : ℤ) → nat_abs a ≤ 2 ^ 101 → FitsSigned w128 a
+small_fits a h = omega (arith, ints)
+
+-- two numbers that were read, and their sum
+pub read_fits : (x y a b : ℤ) → x ≡ a → y ≡ b → nat_abs a ≤ 2 ^ 101 → nat_abs b ≤ 2 ^ 101 → FitsSigned w128 (to_z w128 (of_z w128 x) +ℤ to_z w128 (of_z w128 y))
+read_fits x y a b e f h k = rw (e, f, to_z-of_z w128 a (small_fits a h), to_z-of_z w128 b (small_fits b k)) (sum_fits a b h k)
+
+pub read_sum : (x y a b : ℤ) → x ≡ a → y ≡ b → nat_abs a ≤ 2 ^ 101 → nat_abs b ≤ 2 ^ 101 → to_z w128 (of_z w128 (to_z w128 (of_z w128 x) +ℤ to_z w128 (of_z w128 y))) ≡ a +ℤ b
+read_sum x y a b e f h k = rw (e, f, to_z-of_z w128 a (small_fits a h), to_z-of_z w128 b (small_fits b k)) (to_z-of_z w128 (a +ℤ b) (sum_fits a b h k))
+
+abbrev pub AreProducts : ShownCone → ℕ → ℕ → List ℤ → Type 0
+AreProducts c r s row = (k : ℕ) → k < c.size → slice_index_or row k (pos 0) ≡ shown_gram c r k +ℤ shown_gram c s k
+
+pub sized : (c : ShownCone) (r s n : ℕ) (row : List ℤ) → n ≡ c.size → ((k : ℕ) → k < n → slice_index_or row k (pos 0) ≡ shown_gram c r k +ℤ shown_gram c s k) → AreProducts c r s row
+sized c r s n row e h k l = h k (omega arith)
+
+pub product_small : (c : ShownCone) (r s k : ℕ) → IsWithinLimits c → r < c.size → s < c.size → k < c.size → nat_abs (shown_gram c r k +ℤ shown_gram c s k) ≤ 2 ^ 101
+product_small c r s k w lr ls lk = sum_small (shown_gram c r k) (shown_gram c s k) (gram_within c r k w lr lk) (gram_within c s k w ls lk)
+
+-- the row of the mediant
+pub row_is : (c : ShownCone) (r s at : ℕ) (row : List ℤ) (v : ℤ) → AreProducts c r s row → r < length row → at ≡ r
+    → v ≡ (shown_gram c r r +ℤ shown_gram c s r) +ℤ (shown_gram c r s +ℤ shown_gram c s s) → IsRowOf c r s (slice_set row at v)
+row_is c r s at row v h room e is = record { entries = λ k l. rw e (by k l (same_or_not k r)) }
+  where
+    by : (k : ℕ) → k < c.size → ((k ≡ r) ⊎ (k ≢ r)) → slice_index_or (slice_set row r v) k (pos 0) ≡ child_gram (shown_gram c) r s r k
+    by k l (inl same) = ap (λ (w : ℕ). slice_index_or (slice_set row r v) w (pos 0)) same ∙ get_or-set_same row r v (pos 0) room ∙ is ∙ sym (child_gram_square (shown_gram c) r s) ∙ ap (child_gram (shown_gram c) r s r) (sym same)
+    by k l (inr ne) = get_or-set_other row r k v (pos 0) ne ∙ h k l ∙ sym (child_gram_row (shown_gram c) r s k ne)

@@ -1,0 +1,21 @@
+use Rattle.std.specs.Prelude.{◌<◌, ◌≤◌, ◌^◌, ◌+◌, ℕ}
+use Rattle.std.proofs.Common.{arith, ap₂, ◌∙◌, length-set}
+use Rattle.unimodular_cone.specs.Shown.{shown_coordinate}
+use Rattle.unimodular_cone.proofs.ShownLaws.{coordinate_within}
+use Rattle.unimodular_cone.proofs.Mediants.{more_set}
+use Rattle.unimodular_cone.proofs.mediant.mediant_coordinates.Goals as goal
+
+pub overflow_add-sums : goal.overflow_add-sums
+overflow_add-sums g c =
+    let a : shown_coordinate (g.C.ConeRead.cone c.args.c.now) c.args.r c.loop-p.p ≤ 2 ^ 62 = coordinate_within _ _ _ c.n-n.ensures.fits c.requires.first (omega arith) in
+    let b : shown_coordinate (g.C.ConeRead.cone c.args.c.now) c.args.s c.loop-p.p ≤ 2 ^ 62 = coordinate_within _ _ _ c.n-n.ensures.fits c.requires.second (omega arith) in
+    omega arith
+
+pub loop-p-preserved : goal.loop-p-preserved
+loop-p-preserved g c =
+    let few : c.loop-p.p < 8 = omega (arith, c.n-n.ensures.fits.few) in
+    record {
+      room = length-set c.loop-p.sums c.from.result _ ∙ c.loop-p.invariant.room;
+      sums = more_set 0 c.loop-p.sums (λ (k : ℕ). shown_coordinate (g.C.ConeRead.cone c.args.c.now) c.args.r k + shown_coordinate (g.C.ConeRead.cone c.args.c.now) c.args.s k)
+          c.loop-p.p c.from.result _ c.loop-p.invariant.sums (omega (arith, c.loop-p.invariant.room)) c.from.ensures (ap₂ (λ (a : ℕ) (b : ℕ). a + b) c.coordinate_at.ensures c.coordinate_at-in-loop-p.ensures);
+    }

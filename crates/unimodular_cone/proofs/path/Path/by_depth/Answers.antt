@@ -1,0 +1,13 @@
+use Rattle.std.proofs.Common.{◌∙◌, ap₂}
+use Rattle.std.specs.Ordering.{ordering_then}
+use Rattle.std.specs.declared.cmp.Ordering.{Ordering}
+use Rattle.unimodular_cone.specs.Paths.{depth_order}
+use Rattle.unimodular_cone.proofs.PackedOrder.{fields-depth_order}
+use Rattle.unimodular_cone.proofs.path.Path.by_depth.Goals as goal
+
+pub returns : goal.returns
+returns c =
+    c.then.ensures
+    ∙ ap₂ (λ (a : Ordering) (b : Ordering). ordering_then a b) c.cmp.ensures c.cmp-2.ensures
+    ∙ fields-depth_order c.self.inside c.other.inside c.self.invariant c.other.invariant
+    ∙ ap₂ depth_order c.self.view_is c.other.view_is

@@ -1,0 +1,12 @@
+pub mod Paths
+pub mod Cones
+pub mod Tree
+pub mod Answer
+pub mod PackedDigits
+pub mod BestPair
+pub mod ConeFields
+pub mod Replacement
+pub mod RootNumbers
+pub mod Mediant
+pub mod Shown
+pub mod Theorems

@@ -1,0 +1,66 @@
+//! The bound test of a cone: its slacks and its least value.
+
+ghost use Rattle.std.specs.Prelude.{◌≡◌, ◌≤◌, ◌<◌, ◌^◌, ◌-◌, ◌↔◌, IsTrue, pos, ◌≤ℤ◌, neg_ℤ, nat_abs, ℕ};
+ghost use Rattle.exact_forms.specs.Slacks.{slack, IsClosed};
+ghost use Rattle.unimodular_cone.specs.Shown.{shown_gram, IsWithinLimits};
+ghost use Rattle.unimodular_cone.specs.Answer.{IsLeastDiagonal};
+
+use crate::cone_read::ConeRead;
+
+/// The Gram entry at a row and a column that count from 0.
+pub fn entry<C: ConeRead>(c: &C, row: u8, column: u8) -> i128
+    requires few { (C.cone c.now).size ≤ 8 }
+    requires row_in_range { row < (C.cone c.now).size }
+    requires column_in_range { column < (C.cone c.now).size }
+    ensures { result ≡ shown_gram (C.cone c.now) row column }
+{
+    c.gram(row + 1, column + 1)
+}
+
+/// The slack of a generator that counts from 0: its value less the shortfalls of the negative entries beside it.
+fn slack_of<C: ConeRead>(c: &C, i: u8, n: u8) -> i128
+    requires fits { IsWithinLimits (C.cone c.now) }
+    requires size { n ≡ (C.cone c.now).size }
+    requires range { i < n }
+    ensures { result ≡ slack n (shown_gram (C.cone c.now)) i }
+{
+    let mut left = entry(c, i, i);
+    for j in 0..n {
+        let beside = entry(c, i, j);
+        if j != i && beside < 0 {
+            left += beside;
+        }
+    }
+    left
+}
+
+/// Whether every slack is at least b. Then each nonzero combination of the generators with nonnegative integer
+/// coefficients has a value of at least b.
+pub fn closed<C: ConeRead>(c: &C, b: i128) -> bool
+    requires low { pos 0 ≤ℤ b }
+    requires high { b ≤ℤ pos (2 ^ 64 - 1) }
+    ensures { IsTrue result ↔ IsClosed (C.cone c.now).size (shown_gram (C.cone c.now)) b }
+{
+    let n = c.n();
+    for i in 0..n {
+        if slack_of(c, i, n) < b {
+            return false;
+        }
+    }
+    true
+}
+
+/// The least value of a generator.
+pub fn least_value<C: ConeRead>(c: &C) -> i128
+    ensures { IsLeastDiagonal (C.cone c.now).size (shown_gram (C.cone c.now)) result }
+{
+    let n = c.n();
+    let mut least = entry(c, 0, 0);
+    for k in 1..n {
+        let value = entry(c, k, k);
+        if value < least {
+            least = value;
+        }
+    }
+    least
+}

@@ -1,0 +1,65 @@
+//! The pair rule: the least negative Gram entry beside the diagonal.
+
+ghost use Rattle.std.specs.Prelude.{◌≡◌, ◌≤◌, ◌<◌};
+ghost use Rattle.unimodular_cone.specs.BestPair.{best_pair, IsBestOf, better_best};
+ghost use Rattle.unimodular_cone.specs.Cones.{best_in_row};
+ghost use Rattle.unimodular_cone.specs.Shown.{shown_gram, IsWithinLimits, NamesPair};
+
+use crate::bound_test::entry;
+use crate::cone_read::ConeRead;
+
+/// The least negative entry so far and its place, from 0; the value 0 where there is none.
+#[derive(Clone, Copy)]
+struct Best {
+    value: i128,
+    row: u8,
+    column: u8,
+}
+
+/// The better of the best so far and one more entry, the earlier one among equals.
+fn better_of(best: Best, value: i128, row: u8, column: u8) -> Best
+    ensures { result ≡ better_best best value row column }
+{
+    if value < best.value {
+        Best { value, row, column }
+    } else {
+        best
+    }
+}
+
+/// The best of what came before and of the entries of a row beyond the diagonal.
+fn best_beyond<C: ConeRead>(c: &C, row: u8, n: u8, before: Best) -> Best
+    requires fits { IsWithinLimits (C.cone c.now) }
+    requires size { n ≡ (C.cone c.now).size }
+    requires range { row < n }
+    requires best { IsBestOf (shown_gram (C.cone c.now)) before }
+    ensures best { IsBestOf (shown_gram (C.cone c.now)) result }
+    ensures pair { best_pair result ≡ best_in_row (shown_gram (C.cone c.now)) row n (best_pair before) }
+{
+    let mut best = before;
+    for column in row + 1..n {
+        best = better_of(best, entry(c, row, column), row, column);
+    }
+    best
+}
+
+/// The pair of a cone: the least negative Gram entry at (i, j) with i < j; among equals the least i, then the least j.
+/// None exactly where no entry beside the diagonal is negative. It counts from 1.
+pub fn pair<C: ConeRead>(c: &C) -> Option<(u8, u8)>
+    ensures { NamesPair (C.cone c.now) result }
+{
+    let n = c.n();
+    let mut best = Best {
+        value: 0,
+        row: 0,
+        column: 0,
+    };
+    for row in 0..n {
+        best = best_beyond(c, row, n, best);
+    }
+    if best.value < 0 {
+        Some((best.row + 1, best.column + 1))
+    } else {
+        None
+    }
+}
