@@ -8,7 +8,7 @@ use Rattle.std.proofs.Math.Seq.{drop-cons}
 use Rattle.cp_outside.specs.Faults.{RoseOrFull}
 use Rattle.cp_outside.specs.Puts.{OnDone, OnPutFailed, OnPutOutOfMemory, appended, AppendsFront}
 use Rattle.cpfactor_top.specs.declared.ended.Cause.{Cause}
-use Rattle.cpfactor_top.specs.declared.ended.Cause.TheVariants.{Fine, Usage, TooLong, NotYet, ReadFault, WriteFault, Memory}
+use Rattle.cpfactor_top.specs.declared.ended.Cause.TheVariants.{Fine, Usage, TooLong, MatrixFault, Overflow, NotYet, ReadFault, WriteFault, Memory}
 use Rattle.cp_outside.specs.declared.sink.PutEnd.{PutEnd}
 use Rattle.cp_outside.specs.declared.sink.PutEnd.TheVariants.{Done, Failed, OutOfMemory}
 use Rattle.cpfactor_top.specs.Ending.{cause_after}
