@@ -1,6 +1,6 @@
 -- From one layer's answers to the next, and that one answer alone is due.
-use Rattle.std.specs.Prelude.{◌≡◌, ◌⊎◌, ℕ, ◌<◌, ◌≤◌, List, length, Option, Some, None, Ok, Err, Bool, Result}
-use Rattle.std.proofs.Common.{refl, sym, ap, ◌∙◌, subst, inl, inr, arith}
+use Rattle.std.specs.Prelude.{◌≡◌, ℕ, List, Option, Some, None, Ok, Err, Bool, Result}
+use Rattle.std.proofs.Common.{refl, sym, ap, ◌∙◌, subst, inl, inr}
 use Rattle.exact_forms.proofs.Signs.{negative_not_nonneg}
 use Rattle.symmetric_matrix.specs.Owed.{first_owed, answer}
 use Rattle.symmetric_matrix.proofs.Owed.{answer_is_first_owed}
@@ -14,10 +14,9 @@ use Rattle.cpfactor_top.specs.declared.ended.Cause.{Cause}
 use Rattle.cpfactor_top.specs.declared.ended.Cause.TheVariants.{Fine, Usage, TooLong, MatrixFault as Faulty, Overflow, NotYet, ReadFault, WriteFault, Memory}
 use Rattle.cpfactor_top.specs.declared.ended.Owed.TheVariants.{Clear, Start}
 use Rattle.cpfactor_top.specs.declared.ended.Lacking.TheVariants as lacking
-use Rattle.cpfactor_top.specs.Commands.{Request, Solve, reading, IsCommandLine, IsUsageAt}
 use Rattle.cpfactor_top.specs.StartCone.{LiesInStartCone, LiesOutside}
 use Rattle.cpfactor_top.specs.Endings.{Outlet, EndsBy}
-use Rattle.cpfactor_top.specs.Answers.{whole_of, IsMatrixDue, IsMatrixAnswer, IsSolveDue, IsSolveAnswer, Outside, AreRead, IsFileAnswer, IsAnswer, IsFileDue, IsNamedDue, IsDue, IsCutOff, YieldsTo, YieldsToReading, text_limit}
+use Rattle.cpfactor_top.specs.Answers.{whole_of, IsMatrixDue, IsMatrixAnswer, IsSolveDue, IsSolveAnswer, YieldsTo}
 
 -- ---- lists of operations
 pub none_of_ok : {O V : Type 0} (owed : O → Bool) (ops : List O) (v z : V) → answer owed ops v ≡ Ok z → (first_owed owed ops ≡ None) × (v ≡ z)

@@ -1,10 +1,10 @@
 -- Laws of endings.
-use Rattle.std.specs.Prelude.{◌≡◌, ◌⊎◌, List, ℕ}
+use Rattle.std.specs.Prelude.{◌⊎◌, List, ℕ}
 use Rattle.std.proofs.Common.{inl, inr, subst, sym}
 use Rattle.cpfactor_top.specs.declared.ended.Cause.{Cause}
 use Rattle.cpfactor_top.specs.declared.ended.Cause.TheVariants.{Fine, Usage, TooLong, MatrixFault, Overflow, NotYet, ReadFault, WriteFault, Memory}
 use Rattle.cpfactor_top.specs.Texts.{memory_text}
-use Rattle.cpfactor_top.specs.Endings.{Outlet, IsWritten, IsFrontWritten, Gives, GivesFront, EndsByFault, EndsByMemory, EndsBy, IsAnswered, IsOnly, IsNone}
+use Rattle.cpfactor_top.specs.Endings.{Outlet, IsFrontWritten, Gives, GivesFront, EndsByMemory, EndsBy, IsAnswered, IsOnly, IsNone}
 
 -- an answer's cause, with its text written
 pub ends_by_answer : (answers : Cause → List ℕ → Type 0) (outlet : Outlet) (cause : Cause) → IsAnswered cause → Gives answers outlet cause → EndsBy answers outlet cause

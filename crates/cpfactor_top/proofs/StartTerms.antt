@@ -1,9 +1,9 @@
 -- The terms of a matrix over the start vectors.
-use Rattle.std.specs.Prelude.{◌≡◌, ◌⊎◌, ℕ, ◌+◌, ◌-◌, ◌<◌, ◌≤◌, ℤ, pos, negsuc, nat_abs, ◌*ℤ◌, ◌≤ℤ◌, ◌<ℤ◌, int_lt, cond, Bool, true, false, List, [], ◌∷◌, ◌++◌, length, take, map, slice_index_or}
+use Rattle.std.specs.Prelude.{◌≡◌, ℕ, ◌+◌, ◌<◌, ◌≤◌, ℤ, pos, negsuc, nat_abs, ◌*ℤ◌, ◌≤ℤ◌, ◌<ℤ◌, int_lt, cond, Bool, true, false, List, [], ◌∷◌, ◌++◌, length, take, slice_index_or}
 use Rattle.std.specs.List.{All}
-use Rattle.std.proofs.Common.{refl, sym, ap, ap₂, ◌∙◌, subst, inl, inr, arith}
+use Rattle.std.proofs.Common.{refl, sym, ap, ap₂, ◌∙◌, subst, arith}
 use Rattle.std.proofs.lemmas.Int.{ints}
-use Rattle.std.proofs.lemmas.List.{length-map, length-take, get_or-map, get_or-take, get_or_default, append-nil, map-append, take_more, take_all}
+use Rattle.std.proofs.lemmas.List.{length-map, length-take, get_or-map, get_or-take, get_or_default, map-append, take_more, take_all}
 use Rattle.std.proofs.lemmas.List.Elements.{filter-append, All-filter, All-push}
 use Rattle.exact_forms.specs.Forms.{IsSymmetric}
 use Rattle.exact_forms.specs.Sums.{sum_ℚ}
@@ -25,7 +25,7 @@ use Rattle.symmetric_matrix.specs.StartVectors.{Run, run_vector, start_runs, sta
 use Rattle.symmetric_matrix.specs.StartWeights.{start_weight, start_weights, start_coordinates}
 use Rattle.symmetric_matrix.proofs.Runs.{run_digit_inside, length-run_vector, run_vector_at, late_runs_all, start_list_is, lists_start_vectors}
 use Rattle.symmetric_matrix.proofs.Weights.{start_coordinates_write, start_matrices_independent}
-use Rattle.fraction128.specs.Terms.{vectors_of, IsAfter}
+use Rattle.fraction128.specs.Terms.{IsAfter}
 use Rattle.cpfactor_top.specs.StartCone.{start_term, start_terms, HaveWeights, HasNegativeWeight, LiesInStartCone, LiesOutside, IsStartFactorization}
 
 entry_symmetric : (s : Symmetric) → IsSymmetric s.size (entry s)

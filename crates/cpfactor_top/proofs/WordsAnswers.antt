@@ -3,9 +3,9 @@ use Rattle.std.specs.Prelude.{◌≡◌, ◌⊎◌, ℕ, ◌<◌, ◌≤◌, Lis
 use Rattle.std.proofs.Common.{refl, sym, ap, ◌∙◌, subst, inl, inr, arith}
 use Rattle.cpfactor_top.specs.declared.ended.Cause.{Cause}
 use Rattle.cpfactor_top.specs.declared.ended.Cause.TheVariants.{Fine, Usage, TooLong, MatrixFault as Faulty, Overflow, NotYet, ReadFault, WriteFault, Memory}
-use Rattle.cpfactor_top.specs.Commands.{Request, Solve, reading, IsCommandLine, IsUsageAt}
+use Rattle.cpfactor_top.specs.Commands.{Solve, IsCommandLine, IsUsageAt}
 use Rattle.cpfactor_top.specs.Endings.{Outlet, EndsBy}
-use Rattle.cpfactor_top.specs.Answers.{IsSolveDue, IsSolveAnswer, Outside, AreRead, IsFileAnswer, IsAnswer, IsFileDue, IsNamedDue, IsDue, IsCutOff, YieldsTo, YieldsToReading, text_limit}
+use Rattle.cpfactor_top.specs.Answers.{IsSolveAnswer, Outside, AreRead, IsFileAnswer, IsAnswer, IsFileDue, IsNamedDue, IsDue, IsCutOff, YieldsTo, YieldsToReading, text_limit}
 use Rattle.cpfactor_top.proofs.AnswerLaws.{given_is_due}
 
 -- ---- upwards

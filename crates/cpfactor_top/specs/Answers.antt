@@ -17,7 +17,7 @@ use Rattle.symmetric_matrix.specs.Owed.{first_owed}
 use Rattle.symmetric_matrix.specs.Symmetric.{Symmetric}
 use Rattle.matrix_text.specs.Matrix.{MatrixText, MatrixFault}
 use Rattle.matrix_text.specs.RationalMatrix.{RationalMatrix, rational_entry}
-use Rattle.matrix_text.specs.Clearing.{PlacedOp, is_placed_owed, clear_ops, cleared_of}
+use Rattle.matrix_text.specs.Clearing.{is_placed_owed, clear_ops, cleared_of}
 use Rattle.cp_outside.specs.Faults.{Rose}
 use Rattle.cpfactor_top.specs.declared.ended.Cause.{Cause}
 use Rattle.cpfactor_top.specs.declared.ended.Cause.TheVariants.{Fine, Usage, TooLong, MatrixFault as Faulty, Overflow, NotYet, ReadFault, WriteFault, Memory}

@@ -9,7 +9,7 @@
 --     IsStartFactorization n a terms    the terms factor A; their vectors are start vectors and increase
 --
 -- A has n rows, counted from 0, with rational entries.
-use Rattle.std.specs.Prelude.{ℕ, ◌<◌, ℤ, pos, ◌≤ℤ◌, ◌<ℤ◌, List, length, map}
+use Rattle.std.specs.Prelude.{ℕ, ◌<◌, pos, ◌≤ℤ◌, ◌<ℤ◌, List, length, map}
 use Rattle.std.specs.List.{All, Any}
 use Rattle.exact_forms.specs.Rational.{Rational, ratio}
 use Rattle.exact_forms.specs.Signs.{IsNonnegative, IsNegative}

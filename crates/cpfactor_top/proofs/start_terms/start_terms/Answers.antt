@@ -1,16 +1,14 @@
-use Rattle.std.proofs.Common.{◌≡◌, ◌++◌, ◌∷◌, [], ℕ, ℤ, List, pos, ◌<◌, nat_abs, sym, ap, ap₂, subst, ◌∙◌, true, false, arith, length, to_z, of_z, get_or, rules}
-use Rattle.std.specs.Prelude.{int_lt}
+use Rattle.std.proofs.Common.{◌≡◌, [], ℕ, ℤ, List, pos, ◌<◌, nat_abs, sym, ap, subst, ◌∙◌, arith, length, to_z, of_z, get_or, rules}
 use Rattle.std.proofs.lemmas.Int.{to_z-of_z}
 use Rattle.std.proofs.lemmas.Option.{get_or_from_slice_get}
 use Rattle.std.specs.Int.{w128}
-use Rattle.exact_forms.specs.Rational.{ratio}
 use Rattle.exact_forms.specs.Factors.{WeightedVector}
 use Rattle.exact_forms.specs.PositiveTerms.{positive_terms}
 use Rattle.symmetric_matrix.specs.Symmetric.{entry}
 use Rattle.symmetric_matrix.specs.StartVectors.{start_runs, start_list, run_vector}
-use Rattle.symmetric_matrix.specs.StartWeights.{start_weight, start_weights}
+use Rattle.symmetric_matrix.specs.StartWeights.{start_weight}
 use Rattle.cpfactor_top.specs.StartCone.{start_terms}
-use Rattle.cpfactor_top.proofs.StartTerms.{run_at, weighed, IsMade, none_made, more_made, all_made, next_is_after, negative_at, under, not_under, length-list, length-weights, weight_at, vector_at}
+use Rattle.cpfactor_top.proofs.StartTerms.{run_at, IsMade, none_made, more_made, all_made, next_is_after, negative_at, under, not_under, length-list, length-weights, weight_at, vector_at}
 use Rattle.cpfactor_top.proofs.start_terms.start_terms.Goals as goal
 
 pub loop-k-init : goal.loop-k-init

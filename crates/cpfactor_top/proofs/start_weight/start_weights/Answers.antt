@@ -1,4 +1,4 @@
-use Rattle.std.proofs.Common.{◌≡◌, [], sym, arith, subst, refl}
+use Rattle.std.proofs.Common.{[], sym, arith, subst, refl}
 use Rattle.std.proofs.lemmas.Result.{err_from_is_err_and}
 use Rattle.symmetric_matrix.specs.StartVectors.{late_runs}
 use Rattle.cpfactor_top.proofs.StartWeighing.{AreWeighed, rows_start, rows_more, rows_refused, all_weighed}
