@@ -1,173 +1,156 @@
--- From one layer's answers to the next, and which answer is due.
-use Rattle.std.specs.Prelude.{◌≡◌, ◌⊎◌, ℕ, ◌<◌, ◌≤◌, List, length, Option, Some, Ok, Err}
-use Rattle.std.proofs.Common.{refl, sym, ap, ◌∙◌, subst, inl, inr, arith}
-use Rattle.exact_forms.specs.Signs.{IsNegative}
+-- From one layer's answers to the next, and that one answer alone is due.
+use Rattle.std.specs.Prelude.{◌≡◌, ℕ, List, Option, Some, None, Ok, Err, Bool, Result}
+use Rattle.std.proofs.Common.{refl, sym, ap, ◌∙◌, subst, inl, inr}
 use Rattle.exact_forms.proofs.Signs.{negative_not_nonneg}
-use Rattle.symmetric_matrix.specs.Symmetric.{Symmetric}
-use Rattle.matrix_text.specs.Whole.{WholeText}
-use Rattle.matrix_text.proofs.WholeTexts.{whole-one}
+use Rattle.symmetric_matrix.specs.Owed.{first_owed, answer}
+use Rattle.symmetric_matrix.proofs.Owed.{answer_is_first_owed}
+use Rattle.matrix_text.specs.Matrix.{MatrixText, MatrixFault}
+use Rattle.matrix_text.specs.Clearing.{PlacedOp, is_placed_owed, clear_ops}
+use Rattle.matrix_text.specs.declared.fault.TextFault.{TextFault}
+use Rattle.cpfactor_top.specs.declared.start_weight.WideWeight.{WideWeight}
+use Rattle.cpfactor_top.specs.StartWeighing.{start_ops, is_weight_owed}
+use Rattle.matrix_text.specs.RationalMatrix.{RationalMatrix, rational_entry}
 use Rattle.cpfactor_top.specs.declared.ended.Cause.{Cause}
-use Rattle.cpfactor_top.specs.declared.ended.Cause.TheVariants.{Fine, Usage, TooLong, NotYet, ReadFault, WriteFault, Memory}
+use Rattle.cpfactor_top.specs.declared.ended.Cause.TheVariants.{Fine, Usage, TooLong, MatrixFault as Faulty, Overflow, NotYet, ReadFault, WriteFault, Memory}
+use Rattle.cpfactor_top.specs.declared.ended.Owed.TheVariants.{Clear, Start}
 use Rattle.cpfactor_top.specs.declared.ended.Lacking.TheVariants as lacking
-use Rattle.cpfactor_top.specs.Commands.{Request, Solve, reading, IsCommandLine, IsUsageAt}
 use Rattle.cpfactor_top.specs.StartCone.{LiesInStartCone, LiesOutside}
 use Rattle.cpfactor_top.specs.Endings.{Outlet, EndsBy}
-use Rattle.cpfactor_top.specs.Answers.{IsMatrixAnswer, IsSolveAnswer, Outside, AreRead, IsFileAnswer, IsAnswer, IsSolveDue, IsFileDue, IsNamedDue, IsDue, IsCutOff, YieldsTo, YieldsToReading, text_limit}
+use Rattle.cpfactor_top.specs.Answers.{whole_of, IsMatrixDue, IsMatrixAnswer, IsSolveDue, IsSolveAnswer, YieldsTo}
 
--- ---- upwards
-pub solve_follows : (bytes : List ℕ) (s : Symmetric) → WholeText bytes s → (cause : Cause) (text : List ℕ) → IsMatrixAnswer s cause text → IsSolveAnswer bytes cause text
-solve_follows bytes s is Fine text h = (s, is, h)
-solve_follows bytes s is (NotYet lacking.Text) text h = absurd h
-solve_follows bytes s is (NotYet lacking.Outside) text h = (s, is, h)
-solve_follows bytes s is (Usage position) text h = absurd h
-solve_follows bytes s is TooLong text h = absurd h
-solve_follows bytes s is ReadFault text h = absurd h
-solve_follows bytes s is WriteFault text h = absurd h
-solve_follows bytes s is Memory text h = absurd h
+-- ---- lists of operations
+pub none_of_ok : {O V : Type 0} (owed : O → Bool) (ops : List O) (v z : V) → answer owed ops v ≡ Ok z → (first_owed owed ops ≡ None) × (v ≡ z)
+none_of_ok {O} {V} owed ops v z h = by (first_owed owed ops) refl
+  where
+    by : (o : Option O) → first_owed owed ops ≡ o → (first_owed owed ops ≡ None) × (v ≡ z)
+    by None e = (e, let k : Ok v ≡ Ok z = sym (answer_is_first_owed owed ops v ∙ ap (λ f. elim f as (λ _. Result V O) [ None ↦ Ok v | Some op ↦ Err op ]) e) ∙ h in cc)
+    by (Some op) e = absurd (let k : Err op ≡ Ok z = sym (answer_is_first_owed owed ops v ∙ ap (λ f. elim f as (λ _. Result V O) [ None ↦ Ok v | Some op ↦ Err op ]) e) ∙ h in cc)
 
-pub file_follows : (file : Outside) (bytes : List ℕ) → AreRead file bytes → (cause : Cause) (text : List ℕ) → IsSolveAnswer bytes cause text → IsFileAnswer file cause text
-file_follows file bytes read Fine text h = (bytes, read, h)
-file_follows file bytes read (NotYet what) text h = (bytes, read, h)
-file_follows file bytes read (Usage position) text h = absurd h
-file_follows file bytes read TooLong text h = absurd h
-file_follows file bytes read ReadFault text h = absurd h
-file_follows file bytes read WriteFault text h = absurd h
-file_follows file bytes read Memory text h = absurd h
+pub some_of_err : {O V : Type 0} (owed : O → Bool) (ops : List O) (v : V) (err : O) → answer owed ops v ≡ Err err → first_owed owed ops ≡ Some err
+some_of_err {O} {V} owed ops v err h = by (first_owed owed ops) refl
+  where
+    by : (o : Option O) → first_owed owed ops ≡ o → first_owed owed ops ≡ Some err
+    by None e = absurd (let k : Ok v ≡ Err err = sym (answer_is_first_owed owed ops v ∙ ap (λ f. elim f as (λ _. Result V O) [ None ↦ Ok v | Some op ↦ Err op ]) e) ∙ h in cc)
+    by (Some op) e = e ∙ (let k : Err op ≡ Err err = sym (answer_is_first_owed owed ops v ∙ ap (λ f. elim f as (λ _. Result V O) [ None ↦ Ok v | Some op ↦ Err op ]) e) ∙ h in cc)
 
-pub words_follow : (words : List (List ℕ)) (files : List ℕ → Outside) (name : List ℕ) → IsCommandLine words (Solve name) → (cause : Cause) (text : List ℕ) → IsFileAnswer (files name) cause text → IsAnswer words files cause text
-words_follow words files name is Fine text h = (name, is, h)
-words_follow words files name is (NotYet what) text h = (name, is, h)
-words_follow words files name is (Usage position) text h = absurd h
-words_follow words files name is TooLong text h = (name, is, h)
-words_follow words files name is ReadFault text h = (name, is, h)
-words_follow words files name is WriteFault text h = absurd h
-words_follow words files name is Memory text h = absurd h
+-- ---- a matrix: one cause is due
+in_or_out : (n : ℕ) (a : ℕ → ℕ → _) → LiesInStartCone n a → LiesOutside n a → ⊥
+in_or_out n a inside outside = negative_not_nonneg (outside.coordinates outside.place) outside.negative (inside.nonnegative outside.coordinates outside.are_coordinates outside.place outside.within)
 
--- ---- which answer is due
-in_or_out : (s : Symmetric) → LiesInStartCone s → LiesOutside s → ⊥
-in_or_out s inside outside = negative_not_nonneg (outside.coordinates outside.place) outside.negative (inside.nonnegative outside.coordinates outside.are_coordinates outside.place outside.within)
+clear_once : (p q : PlacedOp) (o : Option PlacedOp) → o ≡ Some p → o ≡ Some q → Overflow (Clear p.row p.column p.op) ≡ Overflow (Clear q.row q.column q.op)
+clear_once p q o h k = let e : p ≡ q = cc in ap (λ (w : PlacedOp). Overflow (Clear w.row w.column w.op)) e
 
-solve_given : (bytes : List ℕ) (given cause : Cause) (text : List ℕ) → IsSolveAnswer bytes given text → IsSolveDue bytes cause → given ≡ cause
-solve_given bytes Fine Fine text h due = refl
-solve_given bytes Fine (NotYet lacking.Text) text (s, is, h) due = absurd (due s is)
-solve_given bytes Fine (NotYet lacking.Outside) text (s, is, h) (r, ir, due) = absurd (in_or_out r (subst LiesInStartCone (whole-one bytes s r is ir) h.in_start_cone) due)
-solve_given bytes (NotYet lacking.Text) Fine text h (s, is, due) = absurd (h.0 s is)
-solve_given bytes (NotYet lacking.Text) (NotYet lacking.Text) text h due = refl
-solve_given bytes (NotYet lacking.Text) (NotYet lacking.Outside) text h (s, is, due) = absurd (h.0 s is)
-solve_given bytes (NotYet lacking.Outside) Fine text (s, is, h) (r, ir, due) = absurd (in_or_out r due (subst LiesOutside (whole-one bytes s r is ir) h.0))
-solve_given bytes (NotYet lacking.Outside) (NotYet lacking.Text) text (s, is, h) due = absurd (due s is)
-solve_given bytes (NotYet lacking.Outside) (NotYet lacking.Outside) text h due = refl
-solve_given bytes given (Usage position) text h due = absurd due
-solve_given bytes given TooLong text h due = absurd due
-solve_given bytes given ReadFault text h due = absurd due
-solve_given bytes given WriteFault text h due = absurd due
-solve_given bytes given Memory text h due = absurd due
-solve_given bytes (Usage position) cause text h due = absurd h
-solve_given bytes TooLong cause text h due = absurd h
-solve_given bytes ReadFault cause text h due = absurd h
-solve_given bytes WriteFault cause text h due = absurd h
-solve_given bytes Memory cause text h due = absurd h
+start_once : (p q : WideWeight) (o : Option WideWeight) → o ≡ Some p → o ≡ Some q → Overflow (Start p.vector p.op) ≡ Overflow (Start q.vector q.op)
+start_once p q o h k = let e : p ≡ q = cc in ap (λ (w : WideWeight). Overflow (Start w.vector w.op)) e
+
+pub matrix_due_once : (a : RationalMatrix) (c d : Cause) → IsMatrixDue a c → IsMatrixDue a d → c ≡ d
+matrix_due_once a (Overflow (Clear row column op)) (Overflow (Clear row' column' op')) h k =
+    clear_once (record { row = row; column = column; op = op }) (record { row = row'; column = column'; op = op' }) (first_owed is_placed_owed (clear_ops a)) h k
+matrix_due_once a (Overflow (Clear row column op)) (Overflow (Start vector op')) h (none, k) = absurd cc
+matrix_due_once a (Overflow (Clear row column op)) (NotYet what) h ((none, k), out) = absurd cc
+matrix_due_once a (Overflow (Clear row column op)) Fine h ((none, k), inside) = absurd cc
+matrix_due_once a (Overflow (Start vector op)) (Overflow (Clear row column op')) (none, h) k = absurd cc
+matrix_due_once a (Overflow (Start vector op)) (Overflow (Start vector' op')) (none, h) (none', k) =
+    start_once (record { vector = vector; op = op }) (record { vector = vector'; op = op' }) (first_owed is_weight_owed (start_ops (whole_of a))) h k
+matrix_due_once a (Overflow (Start vector op)) (NotYet what) (none, h) ((none', k), out) = absurd cc
+matrix_due_once a (Overflow (Start vector op)) Fine (none, h) ((none', k), inside) = absurd cc
+matrix_due_once a (NotYet what) (Overflow (Clear row column op)) ((none, h), out) k = absurd cc
+matrix_due_once a (NotYet what) (Overflow (Start vector op)) ((none, h), out) (none', k) = absurd cc
+matrix_due_once a (NotYet lacking.Outside) (NotYet lacking.Outside) h k = refl
+matrix_due_once a (NotYet what) Fine (w, out) (w', inside) = absurd (in_or_out a.size (rational_entry a) inside out)
+matrix_due_once a Fine (Overflow (Clear row column op)) ((none, h), inside) k = absurd cc
+matrix_due_once a Fine (Overflow (Start vector op)) ((none, h), inside) (none', k) = absurd cc
+matrix_due_once a Fine (NotYet what) (w, inside) (w', out) = absurd (in_or_out a.size (rational_entry a) inside out)
+matrix_due_once a Fine Fine h k = refl
+matrix_due_once a c (Faulty fault) h k = absurd k
+matrix_due_once a c (Usage position) h k = absurd k
+matrix_due_once a c TooLong h k = absurd k
+matrix_due_once a c ReadFault h k = absurd k
+matrix_due_once a c WriteFault h k = absurd k
+matrix_due_once a c Memory h k = absurd k
+matrix_due_once a (Faulty fault) d h k = absurd h
+matrix_due_once a (Usage position) d h k = absurd h
+matrix_due_once a TooLong d h k = absurd h
+matrix_due_once a ReadFault d h k = absurd h
+matrix_due_once a WriteFault d h k = absurd h
+matrix_due_once a Memory d h k = absurd h
+
+-- ---- bytes
+pub solve_follows : (bytes : List ℕ) (a : RationalMatrix) → MatrixText bytes a → (cause : Cause) (text : List ℕ) → IsMatrixAnswer a cause text → IsSolveAnswer bytes cause text
+solve_follows bytes a is Fine text h = (a, is, h)
+solve_follows bytes a is (Overflow owed) text h = (a, is, h)
+solve_follows bytes a is (NotYet what) text h = (a, is, h)
+solve_follows bytes a is (Faulty fault) text h = absurd h.due
+solve_follows bytes a is (Usage position) text h = absurd h.due
+solve_follows bytes a is TooLong text h = absurd h.due
+solve_follows bytes a is ReadFault text h = absurd h.due
+solve_follows bytes a is WriteFault text h = absurd h.due
+solve_follows bytes a is Memory text h = absurd h.due
+
+answer_due : (bytes : List ℕ) (cause : Cause) (text : List ℕ) → IsSolveAnswer bytes cause text → IsSolveDue bytes cause
+answer_due bytes Fine text (a, is, h) = (a, is, h.due)
+answer_due bytes (Overflow owed) text (a, is, h) = (a, is, h.due)
+answer_due bytes (NotYet what) text (a, is, h) = (a, is, h.due)
+answer_due bytes (Faulty fault) text h = h.0
+answer_due bytes (Usage position) text h = absurd h
+answer_due bytes TooLong text h = absurd h
+answer_due bytes ReadFault text h = absurd h
+answer_due bytes WriteFault text h = absurd h
+answer_due bytes Memory text h = absurd h
+
+one_matrix : (bytes : List ℕ) (a b : RationalMatrix) → MatrixText bytes a → MatrixText bytes b → a ≡ b
+unfolding MatrixText
+one_matrix bytes a b h k = cc
+
+one_fault : (bytes : List ℕ) (f g : TextFault) → MatrixFault bytes f.kind f.line → MatrixFault bytes g.kind g.line → Faulty f ≡ Faulty g
+unfolding MatrixFault
+one_fault bytes f g h k = let e : f ≡ g = cc in ap Faulty e
+
+text_or_fault : (bytes : List ℕ) (a : RationalMatrix) (f : TextFault) → MatrixText bytes a → MatrixFault bytes f.kind f.line → ⊥
+unfolding MatrixText MatrixFault
+text_or_fault bytes a f h k = absurd cc
+
+read_due_once : (bytes : List ℕ) (c d : Cause) → (a : RationalMatrix) → MatrixText bytes a → IsMatrixDue a c → (b : RationalMatrix) → MatrixText bytes b → IsMatrixDue b d → c ≡ d
+read_due_once bytes c d a is h b ib k = matrix_due_once b c d (subst (λ (m : RationalMatrix). IsMatrixDue m c) (one_matrix bytes a b is ib) h) k
+
+solve_due_once : (bytes : List ℕ) (c d : Cause) → IsSolveDue bytes c → IsSolveDue bytes d → c ≡ d
+solve_due_once bytes Fine Fine (a, is, h) (b, ib, k) = read_due_once bytes Fine Fine a is h b ib k
+solve_due_once bytes Fine (Overflow o) (a, is, h) (b, ib, k) = read_due_once bytes Fine (Overflow o) a is h b ib k
+solve_due_once bytes Fine (NotYet w) (a, is, h) (b, ib, k) = read_due_once bytes Fine (NotYet w) a is h b ib k
+solve_due_once bytes Fine (Faulty f) (a, is, h) k = absurd (text_or_fault bytes a f is k)
+solve_due_once bytes (Overflow o) Fine (a, is, h) (b, ib, k) = read_due_once bytes (Overflow o) Fine a is h b ib k
+solve_due_once bytes (Overflow o) (Overflow p) (a, is, h) (b, ib, k) = read_due_once bytes (Overflow o) (Overflow p) a is h b ib k
+solve_due_once bytes (Overflow o) (NotYet w) (a, is, h) (b, ib, k) = read_due_once bytes (Overflow o) (NotYet w) a is h b ib k
+solve_due_once bytes (Overflow o) (Faulty f) (a, is, h) k = absurd (text_or_fault bytes a f is k)
+solve_due_once bytes (NotYet v) Fine (a, is, h) (b, ib, k) = read_due_once bytes (NotYet v) Fine a is h b ib k
+solve_due_once bytes (NotYet v) (Overflow p) (a, is, h) (b, ib, k) = read_due_once bytes (NotYet v) (Overflow p) a is h b ib k
+solve_due_once bytes (NotYet v) (NotYet w) (a, is, h) (b, ib, k) = read_due_once bytes (NotYet v) (NotYet w) a is h b ib k
+solve_due_once bytes (NotYet v) (Faulty f) (a, is, h) k = absurd (text_or_fault bytes a f is k)
+solve_due_once bytes (Faulty f) Fine h (b, ib, k) = absurd (text_or_fault bytes b f ib h)
+solve_due_once bytes (Faulty f) (Overflow p) h (b, ib, k) = absurd (text_or_fault bytes b f ib h)
+solve_due_once bytes (Faulty f) (NotYet w) h (b, ib, k) = absurd (text_or_fault bytes b f ib h)
+solve_due_once bytes (Faulty f) (Faulty g) h k = one_fault bytes f g h k
+solve_due_once bytes c (Usage position) h k = absurd k
+solve_due_once bytes c TooLong h k = absurd k
+solve_due_once bytes c ReadFault h k = absurd k
+solve_due_once bytes c WriteFault h k = absurd k
+solve_due_once bytes c Memory h k = absurd k
+solve_due_once bytes (Usage position) d h k = absurd h
+solve_due_once bytes TooLong d h k = absurd h
+solve_due_once bytes ReadFault d h k = absurd h
+solve_due_once bytes WriteFault d h k = absurd h
+solve_due_once bytes Memory d h k = absurd h
+
+pub given_is_due : (bytes : List ℕ) (given cause : Cause) (text : List ℕ) → IsSolveAnswer bytes given text → IsSolveDue bytes cause → given ≡ cause
+given_is_due bytes given cause text h due = solve_due_once bytes given cause (answer_due bytes given text h) due
 
 pub solve_yields : (bytes : List ℕ) (o : Outlet) (given cause : Cause) → EndsBy (IsSolveAnswer bytes) o given → IsSolveDue bytes cause → YieldsTo cause given
-solve_yields bytes o Fine cause ends due = inl (solve_given bytes Fine cause ends.text ends.answer due)
-solve_yields bytes o (NotYet what) cause ends due = inl (solve_given bytes (NotYet what) cause ends.text ends.answer due)
+solve_yields bytes o Fine cause ends due = inl (given_is_due bytes Fine cause ends.text ends.answer due)
+solve_yields bytes o (Faulty fault) cause ends due = inl (given_is_due bytes (Faulty fault) cause ends.text ends.answer due)
+solve_yields bytes o (Overflow owed) cause ends due = inl (given_is_due bytes (Overflow owed) cause ends.text ends.answer due)
+solve_yields bytes o (NotYet what) cause ends due = inl (given_is_due bytes (NotYet what) cause ends.text ends.answer due)
 solve_yields bytes o (Usage position) cause ends due = absurd ends.answer
 solve_yields bytes o TooLong cause ends due = absurd ends.answer
 solve_yields bytes o ReadFault cause ends due = absurd ends.answer
 solve_yields bytes o WriteFault cause ends due = inr (inl refl)
 solve_yields bytes o Memory cause ends due = inr (inr refl)
-
--- the bytes that were read are those that are told
-read_given : (file : Outside) (held : List ℕ) (given cause : Cause) (text : List ℕ) → file.told ≡ Some held → (bytes : List ℕ) → AreRead file bytes → IsSolveAnswer bytes given text → IsFileDue held cause → given ≡ cause
-read_given file held given Fine text told bytes read h due = solve_given held given Fine text (subst (λ (b : List ℕ). IsSolveAnswer b given text) (read.told held told) h) due.1
-read_given file held given (NotYet what) text told bytes read h due = solve_given held given (NotYet what) text (subst (λ (b : List ℕ). IsSolveAnswer b given text) (read.told held told) h) due.1
-read_given file held given TooLong text told bytes read h due = absurd (let short : length held ≤ text_limit = subst (λ (b : List ℕ). length b ≤ text_limit) (read.told held told) read.within in omega (arith, due))
-read_given file held given (Usage position) text told bytes read h due = absurd due
-read_given file held given ReadFault text told bytes read h due = absurd due
-read_given file held given WriteFault text told bytes read h due = absurd due
-read_given file held given Memory text told bytes read h due = absurd due
-
-long_given : (file : Outside) (held : List ℕ) (cause : Cause) → file.told ≡ Some held → ((held : List ℕ) → file.told ≡ Some held → text_limit < length held) → IsFileDue held cause → TooLong ≡ cause
-long_given file held Fine told long due = absurd (let l = long held told in omega (arith, due.0))
-long_given file held (NotYet what) told long due = absurd (let l = long held told in omega (arith, due.0))
-long_given file held TooLong told long due = refl
-long_given file held (Usage position) told long due = absurd due
-long_given file held ReadFault told long due = absurd due
-long_given file held WriteFault told long due = absurd due
-long_given file held Memory told long due = absurd due
-
-file_given : (file : Outside) (held : List ℕ) (given cause : Cause) (text : List ℕ) → file.told ≡ Some held → IsFileAnswer file given text → IsFileDue held cause → (given ≡ ReadFault) ⊎ (given ≡ cause)
-file_given file held Fine cause text told (bytes, read, h) due = inr (read_given file held Fine cause text told bytes read h due)
-file_given file held (NotYet what) cause text told (bytes, read, h) due = inr (read_given file held (NotYet what) cause text told bytes read h due)
-file_given file held TooLong cause text told h due = inr (long_given file held cause told h.0 due)
-file_given file held ReadFault cause text told h due = inl refl
-file_given file held (Usage position) cause text told h due = absurd h
-file_given file held WriteFault cause text told h due = absurd h
-file_given file held Memory cause text told h due = absurd h
-
--- ---- words
-same_name : (words : List (List ℕ)) (name other : List ℕ) → IsCommandLine words (Solve name) → IsCommandLine words (Solve other) → name ≡ other
-same_name words name other a b = cc
-
-usage_same : (words : List (List ℕ)) (position other : ℕ) → IsUsageAt words position → IsUsageAt words other → Usage position ≡ Usage other
-usage_same words position other a b = cc
-
-apart : (words : List (List ℕ)) (name : List ℕ) (position : ℕ) → IsCommandLine words (Solve name) → IsUsageAt words position → ⊥
-apart words name position a b = absurd cc
-
-named_given : (words : List (List ℕ)) (files : List ℕ → Outside) (told : List ℕ → Option (List ℕ)) (given cause : Cause) (text : List ℕ) → ((name : List ℕ) → (files name).told ≡ told name)
-    → (name : List ℕ) → IsCommandLine words (Solve name) → IsFileAnswer (files name) given text → IsNamedDue words told cause → (given ≡ ReadFault) ⊎ (given ≡ cause)
-named_given words files told given cause text same name is h (other, held, io, tells, due) =
-    let e = same_name words other name io is in
-    file_given (files name) held given cause text (same name ∙ ap told (sym e) ∙ tells) h due
-
--- a command line that names a file
-named_yields : (words : List (List ℕ)) (files : List ℕ → Outside) (told : List ℕ → Option (List ℕ)) (given cause : Cause) (text : List ℕ) → ((name : List ℕ) → (files name).told ≡ told name)
-    → (name : List ℕ) → IsCommandLine words (Solve name) → IsFileAnswer (files name) given text → IsDue words told cause → YieldsToReading cause given
-named_yields words files told given (Usage position) text same name is h due = absurd (apart words name position is due)
-named_yields words files told given Fine text same name is h due = read_or (named_given words files told given Fine text same name is h due)
-  where
-    read_or : ((given ≡ ReadFault) ⊎ (given ≡ Fine)) → YieldsToReading Fine given
-    read_or (inl e) = inl e
-    read_or (inr e) = inr (inl e)
-named_yields words files told given TooLong text same name is h due = read_or (named_given words files told given TooLong text same name is h due)
-  where
-    read_or : ((given ≡ ReadFault) ⊎ (given ≡ TooLong)) → YieldsToReading TooLong given
-    read_or (inl e) = inl e
-    read_or (inr e) = inr (inl e)
-named_yields words files told given (NotYet what) text same name is h due = read_or (named_given words files told given (NotYet what) text same name is h due)
-  where
-    read_or : ((given ≡ ReadFault) ⊎ (given ≡ NotYet what)) → YieldsToReading (NotYet what) given
-    read_or (inl e) = inl e
-    read_or (inr e) = inr (inl e)
-named_yields words files told given ReadFault text same name is h due = absurd due
-named_yields words files told given WriteFault text same name is h due = absurd due
-named_yields words files told given Memory text same name is h due = absurd due
-
-usage_yields : (words : List (List ℕ)) (told : List ℕ → Option (List ℕ)) (position : ℕ) (cause : Cause) → IsUsageAt words position → IsDue words told cause → YieldsToReading cause (Usage position)
-usage_yields words told position (Usage other) is due = inl (usage_same words position other is due)
-usage_yields words told position Fine is (name, held, line, tells, due) = absurd (apart words name position line is)
-usage_yields words told position TooLong is (name, held, line, tells, due) = absurd (apart words name position line is)
-usage_yields words told position (NotYet what) is (name, held, line, tells, due) = absurd (apart words name position line is)
-usage_yields words told position ReadFault is due = absurd due
-usage_yields words told position WriteFault is due = absurd due
-usage_yields words told position Memory is due = absurd due
-
-cut_off : (cause given : Cause) → IsCutOff given → YieldsToReading cause given
-cut_off Fine given h = inr (inr h)
-cut_off (Usage position) given h = inr h
-cut_off TooLong given h = inr (inr h)
-cut_off (NotYet what) given h = inr (inr h)
-cut_off ReadFault given h = inr (inr h)
-cut_off WriteFault given h = inr (inr h)
-cut_off Memory given h = inr (inr h)
-
-pub words_yield : (words : List (List ℕ)) (files : List ℕ → Outside) (told : List ℕ → Option (List ℕ)) (o : Outlet) (given cause : Cause) → ((name : List ℕ) → (files name).told ≡ told name)
-    → EndsBy (IsAnswer words files) o given → IsDue words told cause → YieldsToReading cause given
-words_yield words files told o Fine cause same ends due = let (name, is, h) = ends.answer in named_yields words files told Fine cause ends.text same name is h due
-words_yield words files told o TooLong cause same ends due = let (name, is, h) = ends.answer in named_yields words files told TooLong cause ends.text same name is h due
-words_yield words files told o (NotYet what) cause same ends due = let (name, is, h) = ends.answer in named_yields words files told (NotYet what) cause ends.text same name is h due
-words_yield words files told o ReadFault cause same ends due = let (name, is, h) = ends.answer in named_yields words files told ReadFault cause ends.text same name is h due
-words_yield words files told o (Usage position) cause same ends due = usage_yields words told position cause ends.answer.0 due
-words_yield words files told o WriteFault cause same ends due = cut_off cause WriteFault (inl refl)
-words_yield words files told o Memory cause same ends due = cut_off cause Memory (inr refl)

@@ -1,16 +1,18 @@
 -- Laws of endings.
-use Rattle.std.specs.Prelude.{◌≡◌, ◌⊎◌, List, ℕ}
+use Rattle.std.specs.Prelude.{◌⊎◌, List, ℕ}
 use Rattle.std.proofs.Common.{inl, inr, subst, sym}
 use Rattle.cpfactor_top.specs.declared.ended.Cause.{Cause}
-use Rattle.cpfactor_top.specs.declared.ended.Cause.TheVariants.{Fine, Usage, TooLong, NotYet, ReadFault, WriteFault, Memory}
+use Rattle.cpfactor_top.specs.declared.ended.Cause.TheVariants.{Fine, Usage, TooLong, MatrixFault, Overflow, NotYet, ReadFault, WriteFault, Memory}
 use Rattle.cpfactor_top.specs.Texts.{memory_text}
-use Rattle.cpfactor_top.specs.Endings.{Outlet, IsWritten, IsFrontWritten, Gives, GivesFront, EndsByFault, EndsByMemory, EndsBy, IsAnswered, IsOnly, IsNone}
+use Rattle.cpfactor_top.specs.Endings.{Outlet, IsFrontWritten, Gives, GivesFront, EndsByMemory, EndsBy, IsAnswered, IsOnly, IsNone}
 
 -- an answer's cause, with its text written
 pub ends_by_answer : (answers : Cause → List ℕ → Type 0) (outlet : Outlet) (cause : Cause) → IsAnswered cause → Gives answers outlet cause → EndsBy answers outlet cause
 ends_by_answer answers outlet Fine is gives = gives
 ends_by_answer answers outlet (Usage position) is gives = gives
 ends_by_answer answers outlet TooLong is gives = gives
+ends_by_answer answers outlet (MatrixFault fault) is gives = gives
+ends_by_answer answers outlet (Overflow owed) is gives = gives
 ends_by_answer answers outlet (NotYet what) is gives = gives
 ends_by_answer answers outlet ReadFault is gives = gives
 ends_by_answer answers outlet WriteFault is gives = absurd is
@@ -37,6 +39,8 @@ module _ (old new : Cause → List ℕ → Type 0) (outlet : Outlet) (follows : 
   ends_by_follows Fine g = gives Fine g
   ends_by_follows (Usage position) g = gives (Usage position) g
   ends_by_follows TooLong g = gives TooLong g
+  ends_by_follows (MatrixFault fault) g = gives (MatrixFault fault) g
+  ends_by_follows (Overflow owed) g = gives (Overflow owed) g
   ends_by_follows (NotYet what) g = gives (NotYet what) g
   ends_by_follows ReadFault g = gives ReadFault g
   ends_by_follows WriteFault e = record { rose = e.rose; front = by_fault e.front }

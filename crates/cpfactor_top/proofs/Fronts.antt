@@ -1,14 +1,13 @@
 -- Texts that are written piece by piece.
-use Rattle.std.specs.Prelude.{◌≡◌, ℕ, ◌+◌, ◌<◌, ◌≤◌, min, List, [], ◌∷◌, ◌++◌, length, take, drop, map, Option, Some, None, slice_index_or}
+use Rattle.std.specs.Prelude.{◌≡◌, ℕ, ◌+◌, ◌<◌, ◌≤◌, min, List, [], ◌∷◌, ◌++◌, length, take, drop, Option, Some, None}
 use Rattle.std.proofs.Common.{refl, zero-add, suc, sym, ap, ◌∙◌, inl, inr, subst, append_assoc, arith, get_or}
 use Rattle.std.specs.List.{flat_map}
-use Rattle.std.proofs.lemmas.List.{append-nil, take_all, length-take, flat_map_more, map_more, take-append-le, take_min, take_at, take-append-drop, take_more}
+use Rattle.std.proofs.lemmas.List.{append-nil, take_all, flat_map_more, take-append-le, take_min, take_at, take-append-drop, take_more}
 use Rattle.std.proofs.lemmas.Grind.{flat_map-append}
 use Rattle.std.proofs.Math.Seq.{drop-cons}
 use Rattle.cp_outside.specs.Faults.{RoseOrFull}
 use Rattle.cp_outside.specs.Puts.{OnDone, OnPutFailed, OnPutOutOfMemory, appended, AppendsFront}
 use Rattle.cpfactor_top.specs.declared.ended.Cause.{Cause}
-use Rattle.cpfactor_top.specs.declared.ended.Cause.TheVariants.{Fine, Usage, TooLong, NotYet, ReadFault, WriteFault, Memory}
 use Rattle.cp_outside.specs.declared.sink.PutEnd.{PutEnd}
 use Rattle.cp_outside.specs.declared.sink.PutEnd.TheVariants.{Done, Failed, OutOfMemory}
 use Rattle.cpfactor_top.specs.Ending.{cause_after}

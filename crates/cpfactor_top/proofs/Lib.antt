@@ -3,7 +3,10 @@ pub mod Endings
 pub mod Fronts
 pub mod TermLines
 pub mod StartTerms
+pub mod StartWeighing
 pub mod AnswerLaws
+pub mod ClearedEntries
+pub mod WordsAnswers
 pub mod FaultPlaces
 pub mod NearFaults
 pub mod OneWay

@@ -1,35 +1,13 @@
 -- The line of a term, coordinate by coordinate.
-use Rattle.std.specs.Prelude.{◌≡◌, ℕ, suc, ◌+◌, ◌/◌, ◌<◌, ◌≤◌, ℤ, pos, negsuc, neg_ℤ, List, [], ◌∷◌, ◌++◌, length, take, map, codes}
+use Rattle.std.specs.Prelude.{◌≡◌, ℕ, zero, suc, ◌+◌, ◌<◌, ◌≤◌, ℤ, pos, List, [], ◌∷◌, ◌++◌, length, take, map, codes, Some, slice_get}
 use Rattle.std.proofs.Common.{refl, sym, ap, ap₂, ◌∙◌, append_assoc, arith, get_or}
 use Rattle.std.specs.List.{flat_map, join_with_byte}
 use Rattle.std.specs.Fmt.{decimal, signed_decimal}
 use Rattle.std.proofs.lemmas.List.{append-nil, take_all, flat_map_more, take_more}
-use Rattle.commutative_ring.specs.Gcd.{gcd_of, gcd_steps}
-use Rattle.commutative_ring.proofs.Lowest.{divided}
-use Rattle.exact_forms.specs.Rational.{ratio, whole}
+use Rattle.exact_forms.specs.Rational.{Rational}
 use Rattle.exact_forms.specs.Factors.{WeightedVector}
-use Rattle.cpfactor_top.specs.declared.term.WholeTerm.{WholeTerm}
 use Rattle.cpfactor_top.specs.Lines.{line, separated}
 use Rattle.cpfactor_top.specs.Texts.{fraction_text, term_line, factorization_text}
-use Rattle.std.proofs.Common.{subst}
-use Rattle.std.proofs.lemmas.List.{length-map}
-use Rattle.std.proofs.Math.ListN.{get_or-map}
-use Rattle.cpfactor_top.specs.Terms.{weighted, weighted_all}
-
-div-one : (n : ℕ) → n / 1 ≡ n
-div-one n = omega arith
-
-divided-one : (z : ℤ) → divided z 1 ≡ z
-divided-one (pos n) = ap pos (div-one n)
-divided-one (negsuc n) = ap (λ m. neg_ℤ (pos m)) (div-one (suc n))
-
-pub whole-num : (z : ℤ) → (whole z).num ≡ z
-unfolding whole ratio gcd_of gcd_steps
-whole-num z = divided-one z
-
-pub whole-den : (z : ℤ) → (whole z).den ≡ 1
-unfolding whole ratio gcd_of gcd_steps
-whole-den z = div-one 1
 
 abbrev pub spaced : ℕ → List ℕ
 spaced x = 32 ∷ decimal x
@@ -49,19 +27,23 @@ coordinate_more xs i old front mid new l is e =
     e ∙ ap (λ m. m ++ spaced (get_or xs i 0)) is ∙ append_assoc old (front ++ flat_map spaced (take i xs)) (spaced (get_or xs i 0))
     ∙ ap (λ t. old ++ t) (flat_map_more spaced front (take i xs) (get_or xs i 0) ∙ ap (λ t. front ++ flat_map spaced t) (sym (take_more xs i 0 l)))
 
-pub term_end : (term : WholeTerm) (xs : List ℕ) (i : ℕ) (old mid new : List ℕ) → xs ≡ term.vector → length xs ≤ i → mid ≡ old ++ ((signed_decimal term.weight ++ 47 ∷ decimal 1) ++ flat_map spaced (take i xs)) → new ≡ mid ++ 10 ∷ []
-    → new ≡ old ++ term_line (weighted term)
-unfolding term_line weighted line
+pub coordinates_begin : (w : Rational) (xs old new : List ℕ) (num den : ℤ) → num ≡ w.num → den ≡ pos w.den → new ≡ old ++ (signed_decimal num ++ 47 ∷ signed_decimal den) → new ≡ old ++ (fraction_text w ++ flat_map spaced (take 0 xs))
+coordinates_begin w xs old new num den same over e =
+    e ∙ ap₂ (λ (n : ℤ) (d : ℤ). old ++ (signed_decimal n ++ 47 ∷ signed_decimal d)) same over ∙ ap (λ t. old ++ t) (sym (append-nil (fraction_text w)))
+
+pub term_end : (term : WeightedVector) (xs : List ℕ) (i : ℕ) (old mid new : List ℕ) → xs ≡ term.vector → length xs ≤ i → mid ≡ old ++ (fraction_text term.weight ++ flat_map spaced (take i xs)) → new ≡ mid ++ 10 ∷ []
+    → new ≡ old ++ term_line term
+unfolding term_line line
 term_end term xs i old mid new same le is e =
     let all : take i xs ≡ term.vector = take_all i xs le ∙ same in
-    let weight : fraction_text (whole term.weight) ≡ signed_decimal term.weight ++ 47 ∷ decimal 1 = ap₂ (λ (n : ℤ) (d : ℕ). signed_decimal n ++ 47 ∷ decimal d) (whole-num term.weight) (whole-den term.weight) in
-    e ∙ ap (λ m. m ++ 10 ∷ []) is ∙ append_assoc old ((signed_decimal term.weight ++ 47 ∷ decimal 1) ++ flat_map spaced (take i xs)) (10 ∷ [])
-    ∙ ap (λ t. old ++ (t ++ 10 ∷ [])) (ap (λ t. (signed_decimal term.weight ++ 47 ∷ decimal 1) ++ flat_map spaced t) all ∙ sym (spaced_joined (signed_decimal term.weight ++ 47 ∷ decimal 1) term.vector) ∙ ap (λ w. join_with_byte 32 (w ∷ map decimal term.vector)) (sym weight))
+    e ∙ ap (λ m. m ++ 10 ∷ []) is ∙ append_assoc old (fraction_text term.weight ++ flat_map spaced (take i xs)) (10 ∷ [])
+    ∙ ap (λ t. old ++ (t ++ 10 ∷ [])) (ap (λ t. fraction_text term.weight ++ flat_map spaced t) all ∙ sym (spaced_joined (fraction_text term.weight) term.vector))
 
--- the term at an index, among the terms as the definitions see them
-pub term_at : (terms : List WholeTerm) (i : ℕ) (item : WholeTerm) → i < length terms → item ≡ get_or terms i item
-    → (i < length (weighted_all terms)) × (weighted item ≡ get_or (weighted_all terms) i (weighted item))
-term_at terms i item l is = (subst (λ n. i < n) (sym (length-map terms weighted)) l, ap weighted is ∙ sym (get_or-map weighted terms i item))
+-- the term at an index
+pub term_at : (terms : List WeightedVector) (i : ℕ) (item : WeightedVector) → slice_get terms i ≡ Some item → (i < length terms) × (item ≡ get_or terms i item)
+term_at [] i item is = absurd cc
+term_at (t ∷ terms) zero item is = (omega arith, let e : Some t ≡ Some item = is in cc)
+term_at (t ∷ terms) (suc i) item is = let rest = term_at terms i item is in (omega (arith, rest.0), rest.1)
 
 abbrev pub first_line : ℕ → ℕ → List ℕ
 first_line n count = line (codes "factored" ∷ decimal n ∷ decimal count ∷ [])

@@ -16,7 +16,7 @@ use Rattle.cp_outside.specs.Puts.{appended, AppendsFront}
 use Rattle.cp_outside.specs.declared.sink.PutEnd.{PutEnd}
 use Rattle.cp_outside.specs.declared.sink.PutEnd.TheVariants.{Done, Failed, OutOfMemory}
 use Rattle.cpfactor_top.specs.declared.ended.Cause.{Cause}
-use Rattle.cpfactor_top.specs.declared.ended.Cause.TheVariants.{Fine, Usage, TooLong, NotYet, ReadFault, WriteFault, Memory}
+use Rattle.cpfactor_top.specs.declared.ended.Cause.TheVariants.{Fine, Usage, TooLong, MatrixFault, Overflow, NotYet, ReadFault, WriteFault, Memory}
 use Rattle.cpfactor_top.specs.Texts.{memory_text}
 
 pub record Outlet : Type 0 where
@@ -55,6 +55,8 @@ abbrev pub EndsBy : (Cause → List ℕ → Type 0) → Outlet → Cause → Typ
 EndsBy answers outlet Fine = Gives answers outlet Fine
 EndsBy answers outlet (Usage position) = Gives answers outlet (Usage position)
 EndsBy answers outlet TooLong = Gives answers outlet TooLong
+EndsBy answers outlet (MatrixFault fault) = Gives answers outlet (MatrixFault fault)
+EndsBy answers outlet (Overflow owed) = Gives answers outlet (Overflow owed)
 EndsBy answers outlet (NotYet what) = Gives answers outlet (NotYet what)
 EndsBy answers outlet ReadFault = Gives answers outlet ReadFault
 EndsBy answers outlet WriteFault = EndsByFault answers outlet
@@ -70,6 +72,8 @@ abbrev pub IsAnswered : Cause → Type 0
 IsAnswered Fine = Unit {0}
 IsAnswered (Usage position) = Unit {0}
 IsAnswered TooLong = Unit {0}
+IsAnswered (MatrixFault fault) = Unit {0}
+IsAnswered (Overflow owed) = Unit {0}
 IsAnswered (NotYet what) = Unit {0}
 IsAnswered ReadFault = Unit {0}
 IsAnswered WriteFault = ⊥

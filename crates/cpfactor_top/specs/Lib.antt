@@ -2,8 +2,8 @@ pub mod Ending
 pub mod Lines
 pub mod Texts
 pub mod Endings
-pub mod Terms
 pub mod StartCone
+pub mod StartWeighing
 pub mod Answers
 pub mod Reading
 pub mod Commands

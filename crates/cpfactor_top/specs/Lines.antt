@@ -8,12 +8,13 @@ use Rattle.std.specs.Prelude.{ℕ, zero, suc, List, [], ◌∷◌, ◌++◌, map
 use Rattle.std.specs.List.{join_with_byte}
 use Rattle.std.specs.Fmt.{decimal, signed_decimal}
 use Rattle.cpfactor_top.specs.declared.line.Word.{Word}
-use Rattle.cpfactor_top.specs.declared.line.Word.TheVariants.{Text, Whole, Fraction}
+use Rattle.cpfactor_top.specs.declared.line.Word.TheVariants.{Text, Whole, Signed, Fraction}
 
 abbrev pub word_text : Word → List ℕ
 word_text (Text bytes) = bytes.now
 word_text (Whole number) = decimal number
-word_text (Fraction num den) = signed_decimal num ++ 47 ∷ decimal den
+word_text (Signed number) = signed_decimal number
+word_text (Fraction num den) = signed_decimal num ++ 47 ∷ signed_decimal den
 
 abbrev pub words_text : List Word → List (List ℕ)
 words_text words = map word_text words

@@ -4,6 +4,8 @@ ghost use Rattle.std.specs.Prelude.{◌≡◌};
 ghost use Rattle.cpfactor_top.specs.Ending.{status_number, status_of, cause_after};
 
 use cp_outside::PutEnd;
+use matrix_text::TextFault;
+use symmetric_matrix::IntOp;
 
 /// The kind of an ending, which the program's exit status shows.
 #[derive(Clone, Copy, Debug, PartialEq, Eq)]
@@ -20,6 +22,8 @@ pub enum Status {
     Write,
     /// Memory was wanting.
     Memory,
+    /// An operation's result doesn't fit.
+    Overflow,
     /// The input is good, and what it needs isn't built yet.
     NotYet,
 }
@@ -33,6 +37,7 @@ impl Status {
             Status::Done => 0,
             Status::Usage => 2,
             Status::Text => 3,
+            Status::Overflow => 6,
             Status::Read => 7,
             Status::Write => 8,
             Status::Memory => 9,
@@ -44,10 +49,17 @@ impl Status {
 /// What isn't built yet.
 #[derive(Clone, Copy, Debug, PartialEq, Eq)]
 pub enum Lacking {
-    /// The text isn't a whole-number matrix text in the one plain spelling.
-    Text,
     /// The matrix lies outside the start cone.
     Outside,
+}
+
+/// An operation whose exact result doesn't fit: its magnitude is over 2^127 - 1.
+#[derive(Clone, Copy, Debug, PartialEq, Eq)]
+pub enum Owed {
+    /// In clearing the matrix of its denominators, at the entry in this row and column, counted from 1.
+    Clear { row: u8, column: u8, op: IntOp },
+    /// In the weight of the start vector of this index, counted from 0.
+    Start { vector: usize, op: IntOp },
 }
 
 /// Why a command ended as it did.
@@ -59,6 +71,10 @@ pub enum Cause {
     Usage { position: u32 },
     /// The matrix file is longer than its limit.
     TooLong,
+    /// The matrix text has this first fault.
+    MatrixFault(TextFault),
+    /// The result of this operation doesn't fit.
+    Overflow(Owed),
     /// The input needs what isn't built yet.
     NotYet { what: Lacking },
     /// Reading the file that the words name failed.
@@ -86,6 +102,8 @@ impl Ended {
             Cause::Fine => Status::Done,
             Cause::Usage { .. } => Status::Usage,
             Cause::TooLong => Status::Text,
+            Cause::MatrixFault(_) => Status::Text,
+            Cause::Overflow(_) => Status::Overflow,
             Cause::NotYet { .. } => Status::NotYet,
             Cause::ReadFault => Status::Read,
             Cause::WriteFault => Status::Write,

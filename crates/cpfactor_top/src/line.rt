@@ -14,8 +14,10 @@ pub enum Word<'a> {
     Text(&'a [u8]),
     /// A whole number, in decimal digits.
     Whole(u64),
+    /// A number with its sign, in decimal digits.
+    Signed(i128),
     /// `num/den`, both in decimal digits.
-    Fraction { num: i128, den: u128 },
+    Fraction { num: i128, den: i128 },
 }
 
 /// Appends a word.
@@ -26,12 +28,13 @@ fn push_word(into: &mut Vec<u8>, word: Word) -> Result<(), AllocError>
     match word {
         Word::Text(bytes) => into.extend_from_slice(bytes),
         Word::Whole(number) => into.extend_from_slice(digits.format(number).as_bytes()),
+        Word::Signed(number) => into.extend_from_slice(digits.format(number).as_bytes()),
         Word::Fraction { num, den } => push_fraction(into, num, den),
     }
 }
 
 /// Appends `num/den`.
-pub fn push_fraction(into: &mut Vec<u8>, num: i128, den: u128) -> Result<(), AllocError>
+pub fn push_fraction(into: &mut Vec<u8>, num: i128, den: i128) -> Result<(), AllocError>
     ensures { OnOk result (into.new.items ≡ into.old.items ++ word_text (Word.Fraction num den)) }
 {
     let mut digits = Buffer::new();

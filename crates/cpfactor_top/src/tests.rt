@@ -32,22 +32,76 @@ const TWO_BY_TWO: &str = "cpmatrix 1 2\n2 1\n1 2\n";
 fn matrices_are_factored_or_named(rt: HostRuntime) -> Result<(), Fail> {
     let cases = [
         ("cpmatrix 1 1\n0\n", 0, "factored 1 0\n"),
-        ("cpmatrix 1 1\n7\n", 0, "factored 1 1\n7/1 1\n"),
+        ("cpmatrix 1 1\n5/3\n", 0, "factored 1 1\n5/3 1\n"),
+        (
+            "cpmatrix 1 1\n9223372036854775807\n",
+            0,
+            "factored 1 1\n9223372036854775807/1 1\n",
+        ),
         (TWO_BY_TWO, 0, "factored 2 3\n1/1 0 1\n1/1 1 0\n1/1 1 1\n"),
         (
-            "cpmatrix 1 3\n3 2 1\n2 4 2\n1 2 3\n",
+            "# a comment\n\ncpmatrix 1 2\r\n\t2  1\n1 4/2",
             0,
-            "factored 3 6\n1/1 0 0 1\n1/1 0 1 0\n1/1 0 1 1\n1/1 1 0 0\n1/1 1 1 0\n1/1 1 1 1\n",
+            "factored 2 3\n1/1 0 1\n1/1 1 0\n1/1 1 1\n",
+        ),
+        (
+            "cpmatrix 1 3\n3/2 1 1/2\n1 2 1\n1/2 1 3/2\n",
+            0,
+            "factored 3 6\n1/2 0 0 1\n1/2 0 1 0\n1/2 0 1 1\n1/2 1 0 0\n1/2 1 1 0\n1/2 1 1 1\n",
         ),
         ("cpmatrix 1 2\n6 3\n3 2\n", 12, "refused not-yet outside\n"),
         ("cpmatrix 1 1\n-1\n", 12, "refused not-yet outside\n"),
-        ("cpmatrix 1 1\n5/3\n", 12, "refused not-yet text\n"),
-        ("", 12, "refused not-yet text\n"),
     ];
     for (text, status, expected) in cases {
         let mut sink = MemSink::with_room(rt.alloc(), 200)?;
         let ended = answer_to(rt.alloc(), "solve a", text.as_bytes(), &mut sink)?;
         assert_eq!(rt; ended.status.number(), status, "at {text}");
+        assert_eq!(rt; sink.bytes(), expected.as_bytes(), "at {text}");
+    }
+    Ok(())
+}
+
+#[test]
+fn faulty_texts_are_refused_with_their_first_fault(rt: HostRuntime) -> Result<(), Fail> {
+    let cases = [
+        ("cpmatrix 1 2\n2 1\n0 2\n", "refused text NotSymmetric 3\n"),
+        ("cpmatrix 1 2\n2 1\n", "refused text MissingRow 3\n"),
+        ("cpmatrix 1 1\n1/0\n", "refused text ZeroDenominator 2\n"),
+        (
+            "cpmatrix 1 1\n9223372036854775808\n",
+            "refused text NumberTooLarge 2\n",
+        ),
+        ("", "refused text NoHeader 1\n"),
+        ("cpmatrix 2 1\n5\n", "refused text BadVersion 1\n"),
+        ("cpmatrix 1 7\n", "refused text BadDimension 1\n"),
+        ("cpmatrix 1 2\n2 1 0\n1 2\n", "refused text LongRow 2\n"),
+    ];
+    for (text, expected) in cases {
+        let mut sink = MemSink::with_room(rt.alloc(), 200)?;
+        let ended = answer_to(rt.alloc(), "solve a", text.as_bytes(), &mut sink)?;
+        assert_eq!(rt; ended.status.number(), 3, "at {text}");
+        assert_eq!(rt; sink.bytes(), expected.as_bytes(), "at {text}");
+    }
+    Ok(())
+}
+
+#[test]
+fn operations_that_do_not_fit_are_named(rt: HostRuntime) -> Result<(), Fail> {
+    let cases = [
+        (
+            "cpmatrix 1 2\n1/9223372036854775807 1/9223372036854775806\n1/9223372036854775806 1/9223372036854775805\n",
+            "refused overflow Clear Mul 85070591730234615838173535747377725442 9223372036854775805\n",
+        ),
+        (
+            "cpmatrix 1 3\n1/9223372036854775807 -9223372036854775807 0\n-9223372036854775807 9223372036854775807 -9223372036854775807\n0 -9223372036854775807 9223372036854775807\n",
+            "refused overflow Start Add 170141183460469231694793815568465002498 85070591730234615847396907784232501249\n",
+        ),
+    ];
+    for (text, expected) in cases {
+        let mut sink = MemSink::with_room(rt.alloc(), 200)?;
+        let ended = answer_to(rt.alloc(), "solve a", text.as_bytes(), &mut sink)?;
+        assert_eq!(rt; ended.status, Status::Overflow, "at {text}");
+        assert_eq!(rt; ended.status.number(), 6);
         assert_eq!(rt; sink.bytes(), expected.as_bytes(), "at {text}");
     }
     Ok(())

@@ -1,10 +1,9 @@
 -- The two passes of clearing, put together.
-use Rattle.std.proofs.Common.{◌≡◌, ℕ, ◌<◌, List, [], ◌∷◌, ◌++◌, length, get_or, map, Result, Ok, Err, ℤ, pos, nat_abs, ◌*ℤ◌, ◌/◌, refl, sym, ap, ap₂, subst, ◌∙◌, arith}
+use Rattle.std.proofs.Common.{◌≡◌, ℕ, ◌<◌, List, [], length, get_or, map, Result, Ok, Err, ℤ, pos, nat_abs, ◌*ℤ◌, ◌/◌, sym, ap, ap₂, subst, ◌∙◌}
 use Rattle.std.proofs.lemmas.List.{append-nil, length-map}
 use Rattle.std.proofs.lemmas.List.Elements.{recursion_from_All}
 use Prim.Native.Nat.{◌∣◌}
 use Rattle.exact_forms.specs.Rational.{Rational, ratio}
-use Rattle.exact_forms.specs.Triangles.{triangle}
 use Rattle.symmetric_matrix.specs.Owed.{answer}
 use Rattle.symmetric_matrix.specs.Symmetric.{Symmetric, IsNarrow, IsLower}
 use Rattle.symmetric_matrix.proofs.Owed.{answer_nothing, answer-append_err, answer-append_ok}

@@ -1,18 +1,18 @@
 -- Clearing, entry by entry.
-use Rattle.std.proofs.Common.{◌≡◌, ◌≢◌, ℕ, zero, suc, ◌+◌, ◌-◌, ◌*◌, ◌/◌, ◌<◌, ◌≤◌, ◌^◌, Bool, true, false, cond, List, [], ◌∷◌, ◌++◌, length, get_or, take, drop, map, Result, Ok, Err, ℤ, pos, negsuc, nat_abs, ◌*ℤ◌, ◌≤ℤ◌, refl, sym, ap, ap₂, subst, ◌∙◌, inl, inr, arith, append_assoc, eq-eqb, ltb→lt, if◌then◌else◌}
-use Rattle.std.specs.Prelude.{◌==◌, All}
+use Rattle.std.proofs.Common.{◌≡◌, ◌≢◌, ℕ, zero, suc, ◌+◌, ◌-◌, ◌*◌, ◌/◌, ◌<◌, ◌≤◌, ◌^◌, Bool, true, false, List, [], ◌∷◌, ◌++◌, length, get_or, take, drop, map, Result, Ok, Err, ℤ, pos, negsuc, nat_abs, ◌*ℤ◌, ◌≤ℤ◌, refl, sym, ap, ap₂, subst, ◌∙◌, inl, inr, arith, eq-eqb, ltb→lt, if◌then◌else◌}
+use Rattle.std.specs.Prelude.{◌==◌}
 use Rattle.std.specs.List.{AllByRecursion, flat_map, range_with_len}
 use Rattle.std.proofs.lemmas.Int.{ints}
 use Rattle.std.proofs.lemmas.Bool.{ne_eqb, cases_eq, cases_lt, ltb-false}
 use Rattle.std.proofs.lemmas.List.{drop_all, drop_more, map_more, take_all, get_or_append_left, get_or_push, length-append}
 use Rattle.std.proofs.lemmas.List.Elements.{All-from_recursion, recursion_from_All}
-use Rattle.std.proofs.Math.Nat.{dvd-mul_right, dvd-mul_left_of_dvd, dvd-mul_right_of_dvd, mul-dvd-mul_left, div-mul_cancel, dvd_of_mul-dvd-mul_right}
+use Rattle.std.proofs.Math.Nat.{dvd-mul_right, mul-dvd-mul_left, div-mul_cancel, dvd_of_mul-dvd-mul_right}
 use Rattle.std.proofs.Math.Nat.{one-dvd}
 use Rattle.std.proofs.lemmas.Nat.Gcd.{dvd_refl, dvd_trans}
 use Prim.Native.Nat.{◌∣◌}
 use Rattle.commutative_ring.proofs.Laws.{mul_assoc_ℤ}
 use Rattle.commutative_ring.specs.Gcd.{gcd_of}
-use Rattle.commutative_ring.proofs.Gcd.{gcd_of_is, dvd_of_dvd-mul}
+use Rattle.commutative_ring.proofs.Gcd.{dvd_of_dvd-mul}
 use Rattle.commutative_ring.proofs.Lowest.{gcd_positive, part_positive, part_times, above_times, parts_lowest}
 use Rattle.exact_forms.specs.Rational.{Rational, ratio}
 use Rattle.exact_forms.specs.Triangles.{triangle, entry_in}
@@ -24,7 +24,7 @@ use Rattle.symmetric_matrix.specs.Operations.{is_owed, mul_op}
 use Rattle.symmetric_matrix.specs.Symmetric.{IsNarrow}
 use Rattle.matrix_text.specs.RationalMatrix.{RationalMatrix, IsRationalMatrix, rational_entry}
 use Rattle.matrix_text.specs.Matrix.{none}
-use Rattle.matrix_text.specs.Clearing.{multiple, PlacedEntry, PlacedOp, is_placed_owed, at_place, placed_row, placed_entries, common_multiple, least_denominator, denominator_ops, numerator_ops, numerators_over, IsLeastCommon}
+use Rattle.matrix_text.specs.Clearing.{multiple, PlacedEntry, PlacedOp, is_placed_owed, placed_row, placed_entries, common_multiple, least_denominator, denominator_ops, numerator_ops, numerators_over, IsLeastCommon}
 use Rattle.matrix_text.specs.declared.clearing.Place.{Place}
 
 -- ---- one operation

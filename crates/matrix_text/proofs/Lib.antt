@@ -15,3 +15,4 @@ pub mod Tables
 pub mod MatrixTexts
 pub mod Clearings
 pub mod ClearedMatrices
+pub mod Ranges

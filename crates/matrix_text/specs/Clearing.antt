@@ -9,7 +9,7 @@
 --     cleared_of a             the numerators over the least common denominator, and that denominator
 --     IsLeastCommon d qs       d is a common multiple of the denominators, and divides each other one
 --     IsCleared a s d          A = S/d, where d is the least common denominator
-use Rattle.std.specs.Prelude.{◌≡◌, ℕ, ◌+◌, ◌*◌, ◌/◌, ◌<◌, Bool, List, [], ◌∷◌, ◌++◌, map, Result, Ok, Err, ℤ, pos, ◌*ℤ◌, All}
+use Rattle.std.specs.Prelude.{◌≡◌, ℕ, ◌+◌, ◌*◌, ◌/◌, ◌<◌, Bool, List, [], ◌∷◌, ◌++◌, map, ℤ, pos, ◌*ℤ◌, All}
 use Rattle.std.specs.List.{flat_map, range_with_len}
 use Prim.Native.Nat.{◌∣◌}
 use Rattle.commutative_ring.specs.Gcd.{gcd_of}

@@ -1,4 +1,6 @@
 -- A content line of the program, as the definitions see it.
+--
+--     line_of l     its number and its bytes
 use Rattle.matrix_text.specs.declared.content.TextLine as declared
 use Rattle.matrix_text.specs.Lines.{TextLine}
 

@@ -1,9 +1,10 @@
 -- The rows of a square matrix, and its lower triangle. Rows and columns count from 0; the entries are of any type.
 --
---     entry_at none rows i j     the entry at row i and column j; none where there is none
---     lower_of rows              the entries up to the diagonal, row by row
---     full none n lower          the n rows of the symmetric matrix with this lower triangle
---     mirrors same none rows i   row i is as column i, left of the diagonal
+--     entry_at none rows i j        the entry at row i and column j; none where there is none
+--     lower_from n rows             the first n entries of the first row, and of each further row one more
+--     lower_of rows                 the entries up to the diagonal, row by row
+--     full none n lower             the n rows of the symmetric matrix with this lower triangle
+--     mirrors same none rows i      row i is as column i, left of the diagonal
 --     first_unlike same none rows   the first row that is not
 use Rattle.std.specs.Prelude.{ℕ, ◌+◌, Bool, not, List, [], ◌∷◌, ◌++◌, length, take, map, Option, slice_index_or, find}
 use Rattle.std.specs.List.{list_all, range_with_len}
@@ -12,7 +13,6 @@ use Rattle.exact_forms.specs.Triangles.{entry_in}
 unfoldable pub entry_at : {A : Type 0} → A → List (List A) → ℕ → ℕ → A
 entry_at none rows i j = slice_index_or (slice_index_or rows i []) j none
 
--- the first row gives its first n entries, and each further row one more
 unfoldable pub lower_from : {A : Type 0} → ℕ → List (List A) → List A
 lower_from n [] = []
 lower_from n (row ∷ rows) = take n row ++ lower_from (n + 1) rows

@@ -7,14 +7,19 @@ ghost use Rattle.matrix_text.specs.Content.{line_of};
 use crate::words::Words;
 use std::marker::Model;
 
-/// A line that is not skipped.
+/// A content line: one that has a word, and whose first word does not begin with `#`.
 #[derive(Clone, Copy)]
 pub struct TextLine<'a> {
+    /// Its number among all lines, from 1.
     pub number: u32,
+    /// Its bytes, without the line feed.
     pub bytes: &'a [u8],
 }
 
-/// What is left of a text.
+/// The content lines of a text, one after the other from the left, and its end line.
+///
+/// Contracts see the content lines that are left, and the number of the end line: the number of lines plus one. After a
+/// last line feed there is no further line.
 #[derive(Drop)]
 pub struct ContentLines<'a> {
     rest: &'a [u8],
@@ -30,6 +35,7 @@ impl<'a> Model for ContentLines<'a> {
 }
 
 impl<'a> ContentLines<'a> {
+    /// The content lines of a text of less than 2^32 - 1 bytes.
     pub fn of(text: &'a [u8]) -> Self
         requires { length text.now + 1 < 2 ^ 32 }
         ensures { result ≡ record { lines = content_lines text.entry.now; end = end_line text.entry.now } }
@@ -40,7 +46,7 @@ impl<'a> ContentLines<'a> {
         }
     }
 
-    /// The next line, or the end line's number.
+    /// The next content line, or the end line's number where there is none.
     #[tactic(auto, using(crate::proofs::LineLemmas::content_steps))]
     pub fn next(&mut self) -> Result<TextLine<'a>, u32>
         ensures line { MatchResult result (λ line. self.old.lines ≡ line_of line ∷ self.new.lines) (λ end. (self.old.lines ≡ []) × (end ≡ self.old.end)) }

@@ -3,7 +3,7 @@
 ghost use Rattle.std.specs.Prelude.{◌≡◌, ◌-◌, ◌^◌, true, false, min, MatchOption};
 ghost use Rattle.matrix_text.specs.Numbers.{is_whole, whole_value, is_signed, magnitude, begins_with_minus, without_minus};
 
-/// The number that a whole word writes.
+/// The number that a whole word writes, one or more digits, or 2^128 - 1 where it is larger; `None` for any other word.
 #[tactic(auto, using(crate::proofs::NumberLemmas::digit_steps))]
 pub fn whole_number(word: &[u8]) -> Option<u128>
     ensures { MatchOption result (is_whole word.now ≡ false) (λ n. (is_whole word.now ≡ true) × (n ≡ min (whole_value word.now) (2 ^ 128 - 1))) }
@@ -39,7 +39,8 @@ fn split_minus(word: &[u8]) -> (bool, &[u8])
     }
 }
 
-/// The number that a signed word writes.
+/// The number that a signed word writes, a whole word with or without one `-` before it; `None` for any other word. Its
+/// magnitude is 2^128 - 1 where it is larger.
 #[tactic(auto, unfolding(crate::specs::Numbers::is_signed, crate::specs::Numbers::magnitude))]
 pub fn signed_number(word: &[u8]) -> Option<Signed>
     ensures { MatchOption result (is_signed word.now ≡ false) (λ n. (is_signed word.now ≡ true) × (n.negative ≡ begins_with_minus word.now) × (n.magnitude ≡ min (magnitude word.now) (2 ^ 128 - 1))) }

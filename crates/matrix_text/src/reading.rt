@@ -2,6 +2,7 @@
 
 ghost use Rattle.std.specs.Prelude.{◌≡◌, ℕ, ◌<◌, ◌≤◌, length, IfOk, Ok, Err};
 ghost use Rattle.matrix_text.specs.Matrix.{MatrixText, MatrixFault, mirrored, none, same_number, line_of_row};
+ghost use Rattle.matrix_text.specs.Canonical.{IsShortMatrix};
 ghost use Rattle.matrix_text.specs.Rows.{table_rows, table_entries};
 ghost use Rattle.matrix_text.specs.Square.{first_unlike};
 ghost use Rattle.matrix_text.specs.declared.fault.TextKind.{TextKind};
@@ -44,6 +45,7 @@ fn matrix_in(alloc: Global, table: &Table) -> Result<RatMatrix, TextFail>
 pub fn read_matrix(alloc: Global, bytes: &[u8]) -> Result<RatMatrix, TextFail>
     requires { length bytes.now ≤ 1048576 }
     ensures ok { IfOk result (λ a. MatrixText bytes.now a) }
+    ensures short { IfOk result (λ a. IsShortMatrix a) }
     ensures fault { (kind : TextKind) → (line : ℕ) → result ≡ Err (Fault (record { kind = kind; line = line })) → MatrixFault bytes.now kind line }
 {
     match read_table(bytes) {

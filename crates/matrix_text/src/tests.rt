@@ -9,6 +9,9 @@ use std::test::Fail;
 use symmetric_matrix::{IntKind, IntOp};
 
 fn first_fault(alloc: Global, text: &[u8]) -> Option<TextFault> {
+    if text.len() > 1_048_576 {
+        return None;
+    }
     match read_matrix(alloc, text) {
         Err(TextFail::Fault(fault)) => Some(fault),
         _ => None,
@@ -65,6 +68,13 @@ fn first_faults_have_lines(rt: HostRuntime) {
     }
 }
 
+fn entry_at(a: &RatMatrix, row: u8, column: u8) -> Option<Fraction> {
+    if row == 0 || column == 0 || row > a.n() || column > a.n() {
+        return None;
+    }
+    Some(a.entry(row, column))
+}
+
 #[test]
 fn texts_are_read(rt: HostRuntime) -> Result<(), Fail> {
     let spaced = read_matrix(
@@ -72,15 +82,18 @@ fn texts_are_read(rt: HostRuntime) -> Result<(), Fail> {
         b"# a comment\xff\n\ncpmatrix 1 2\r\n\t2  01\n1 4/2",
     )?;
     assert_eq!(rt; spaced.n(), 2);
-    assert_eq!(rt; spaced.entry(1, 2), Fraction::whole(1));
-    assert_eq!(rt; spaced.entry(2, 2), Fraction::whole(2));
+    assert_eq!(rt; entry_at(&spaced, 1, 2), Some(Fraction::whole(1)));
+    assert_eq!(rt; entry_at(&spaced, 2, 2), Some(Fraction::whole(2)));
     let reduced = read_matrix(
         rt.alloc(),
         b"cpmatrix 1 2\n-6/4 -0\n0/5 9223372036854775807\n",
     )?;
-    assert_eq!(rt; reduced.entry(1, 1), Fraction::new(-3, 2));
-    assert_eq!(rt; reduced.entry(2, 1), Fraction::whole(0));
-    assert_eq!(rt; reduced.entry(2, 2), Fraction::whole(9223372036854775807));
+    assert_eq!(rt; entry_at(&reduced, 1, 1), Some(Fraction::new(-3, 2)));
+    assert_eq!(rt; entry_at(&reduced, 2, 1), Some(Fraction::whole(0)));
+    assert_eq!(rt;
+        entry_at(&reduced, 2, 2),
+        Some(Fraction::whole(9223372036854775807))
+    );
     Ok(())
 }
 
@@ -99,6 +112,7 @@ fn a_matrix_is_written_in_lowest_terms(rt: HostRuntime) -> Result<(), Fail> {
     Ok(())
 }
 
+#[tactic(auto, unfolding(exact_forms::specs::Triangles::triangle))]
 #[test]
 fn matrices_are_cleared(rt: HostRuntime) -> Result<(), Fail> {
     let third = read_matrix(rt.alloc(), b"cpmatrix 1 1\n5/3\n")?;

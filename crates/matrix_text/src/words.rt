@@ -5,7 +5,8 @@ ghost use Rattle.matrix_text.specs.Lines.{is_blank, words};
 
 use std::marker::Model;
 
-/// The words that are left of a line.
+/// The words of a line, one after the other from the left: the longest runs of bytes other than space, tab and carriage
+/// return. Contracts see the words that are left.
 #[derive(Drop)]
 pub struct Words<'a> {
     rest: &'a [u8],
@@ -18,13 +19,14 @@ impl<'a> Model for Words<'a> {
 }
 
 impl<'a> Words<'a> {
+    /// The words of a line.
     pub fn of(line: &'a [u8]) -> Self
         ensures { result ≡ words line.entry.now }
     {
         Words { rest: line }
     }
 
-    /// The next word.
+    /// The next word, or `None` where there is none.
     pub fn next(&mut self) -> Option<&'a [u8]>
         ensures { MatchOption result ((self.old ≡ []) × (self.new ≡ [])) (λ word. self.old ≡ word.now ∷ self.new) }
     {

@@ -1,4 +1,3 @@
-use Rattle.std.proofs.Common.{◌≡◌, ◌<◌, ◌≤◌, length, arith}
 use Rattle.cpfactor_top.proofs.LineLemmas.{word_more, line_end}
 use Rattle.cpfactor_top.proofs.line.push_line.Goals as goal
 

@@ -2,7 +2,7 @@ use Rattle.std.proofs.Common.{refl}
 use Rattle.cpfactor_top.specs.Requests.{texts}
 use Rattle.cpfactor_top.specs.Endings.{outlet}
 use Rattle.cpfactor_top.specs.Answers.{outside}
-use Rattle.cpfactor_top.proofs.AnswerLaws.{words_yield}
+use Rattle.cpfactor_top.proofs.WordsAnswers.{words_yield}
 use Rattle.cpfactor_top.proofs.program.run.Goals as goal
 
 pub returns-clause-due : goal.returns-clause-due

@@ -1,8 +1,7 @@
-use Rattle.std.proofs.Common.{◌≡◌, ◌<◌, ◌≤◌, length, get_or, rules, arith, to_z, of_z, refl, sym, ap, ◌∙◌}
+use Rattle.std.proofs.Common.{◌≡◌, ◌<◌, ◌≤◌, length, rules, to_z, of_z, refl, sym, ◌∙◌}
 use Rattle.std.specs.Int.{w128}
 use Rattle.std.proofs.lemmas.Int.{to_z-of_z}
 use Rattle.std.proofs.lemmas.Result.{err_from_is_err_and}
-use Rattle.exact_forms.specs.Rational.{Rational}
 use Rattle.matrix_text.proofs.Clearings.{denominator_more, denominator_fails, denominator_done, denominator_whole, product_positive, product_narrow, row_after, column_after}
 use Rattle.matrix_text.proofs.clearing.common_denominator.Goals as goal
 

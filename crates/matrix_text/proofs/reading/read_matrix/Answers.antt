@@ -6,6 +6,7 @@ use Rattle.matrix_text.specs.declared.fault.TextFail.{TextFail}
 use Rattle.matrix_text.specs.declared.fault.TextFail.TheVariants.{Fault}
 use Rattle.matrix_text.specs.declared.matrix.RatMatrix.{RatMatrix}
 use Rattle.matrix_text.proofs.Readings.{table-read, fault-read}
+use Rattle.matrix_text.proofs.Ranges.{text-short}
 use Rattle.matrix_text.proofs.reading.read_matrix.Goals as goal
 
 pub returns-in-Ok-clause-ok : goal.returns-in-Ok-clause-ok
@@ -23,3 +24,6 @@ pub returns-in-Err-clause-fault : goal.returns-in-Err-clause-fault
 returns-in-Err-clause-fault c = λ kind line e.
     let same = same_fault c.in-Err.fault (record { kind = kind; line = line }) e in
     subst (λ (f : TextFault). MatrixFault c.args.bytes.now f.kind f.line) same (fault-read c.args.bytes.now c.in-Err.fault c.in-Err.ensures)
+
+pub returns-in-Ok-clause-short : goal.returns-in-Ok-clause-short
+returns-in-Ok-clause-short c = IfOk-weaker c.matrix_in.result _ _ (λ a e. text-short c.args.bytes.now a e) (returns-in-Ok-clause-ok c)
