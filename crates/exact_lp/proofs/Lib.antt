@@ -1,0 +1,10 @@
+pub mod Outcome
+pub mod Leaving
+pub mod Step
+pub mod Start
+pub mod Once
+pub mod Seeking
+pub mod Choices
+pub mod Weighing
+pub mod Placing
+pub mod SquareLists

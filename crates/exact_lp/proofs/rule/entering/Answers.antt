@@ -1,0 +1,26 @@
+use Rattle.std.proofs.Common.{◌≡◌, ◌∙◌, sym, ap, ap₂, subst, arith, ◌+◌, ℕ, Bool, true, false}
+use Rattle.exact_linear.specs.Tables.{rows_of, table_entry}
+use Rattle.exact_lp.specs.Rule.{entering, goes_down, is_negative, top_row}
+use Rattle.exact_lp.proofs.Seeking.{IsSeeking, seek_found, seek_more, seek_done}
+use Rattle.exact_lp.proofs.Choices.{seek_entering, down_is}
+use Rattle.exact_lp.proofs.rule.entering.Goals as goal
+
+pub loop-column-init : goal.loop-column-init
+loop-column-init c =
+    subst (λ (k : ℕ). IsSeeking (entering c.args.tableau.now c.args.vectors) (goes_down c.args.tableau.now c.args.vectors) k (rows_of c.args.tableau.now + c.args.vectors)) (sym c.rows-units.ensures.value)
+    (seek_entering c.args.tableau.now c.args.vectors)
+
+pub returns-then-is_negative : goal.returns-then-is_negative
+returns-then-is_negative c =
+    seek_found _ (goes_down c.args.tableau.now c.args.vectors) c.loop-column.column (rows_of c.args.tableau.now + c.args.vectors) c.loop-column.invariant
+    (let a = c.loop-column-test.true in let b = c.target_of-column-end.ensures.value in omega arith)
+    (sym (down_is c.args.tableau.now c.args.vectors c.top_row-row.result c.loop-column.column c.entry_at.result c.top_row-row.ensures.value c.entry_at.ensures) ∙ sym c.is_negative.ensures ∙ c.if-is_negative.true)
+
+pub loop-column-preserved : goal.loop-column-preserved
+loop-column-preserved c =
+    seek_more _ (goes_down c.args.tableau.now c.args.vectors) c.loop-column.column (rows_of c.args.tableau.now + c.args.vectors) c.loop-column.invariant
+    (let a = c.loop-column-test.true in let b = c.target_of-column-end.ensures.value in omega arith)
+    (sym (down_is c.args.tableau.now c.args.vectors c.top_row-row.result c.loop-column.column c.entry_at.result c.top_row-row.ensures.value c.entry_at.ensures) ∙ sym c.is_negative.ensures ∙ c.if-is_negative.false)
+
+pub returns : goal.returns
+returns c = seek_done _ (goes_down c.args.tableau.now c.args.vectors) c.loop-column.column (rows_of c.args.tableau.now + c.args.vectors) c.loop-column.invariant (let a = c.loop-column-test.false in let b = c.target_of-column-end.ensures.value in omega arith)

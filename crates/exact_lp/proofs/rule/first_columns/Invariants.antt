@@ -1,0 +1,8 @@
+use Rattle.std.proofs.Common.{◌+◌}
+use Rattle.exact_linear.specs.Tables.{rows_of}
+use Rattle.exact_lp.specs.Rule.{is_basic, first_columns}
+use Rattle.exact_lp.proofs.Seeking.{IsGathered}
+use Rattle.exact_lp.proofs.rule.first_columns.Given as goal
+
+abbrev pub invariant-loop-column : goal.invariant-loop-column
+invariant-loop-column l = IsGathered (first_columns l.tableau l.vectors) l.columns.items (is_basic l.tableau) l.column (rows_of l.tableau + l.vectors)

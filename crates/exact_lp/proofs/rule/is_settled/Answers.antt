@@ -1,0 +1,23 @@
+use Rattle.std.proofs.Common.{◌≡◌, ◌∙◌, sym, arith}
+use Rattle.exact_linear.specs.Tables.{rows_of}
+use Rattle.exact_lp.specs.Rule.{is_below}
+use Rattle.exact_lp.proofs.Seeking.{seek_found, seek_more, seek_done}
+use Rattle.exact_lp.proofs.Choices.{seek_below, below_is, settled_not, settled_yes}
+use Rattle.exact_lp.proofs.rule.is_settled.Goals as goal
+
+pub loop-row-init : goal.loop-row-init
+loop-row-init c = seek_below c.args.tableau.now c.args.vectors
+
+pub returns-then-is_negative : goal.returns-then-is_negative
+returns-then-is_negative c = settled_not c.args.tableau.now c.args.vectors c.loop-row.row
+    (seek_found _ (is_below c.args.tableau.now c.args.vectors) c.loop-row.row (rows_of c.args.tableau.now) c.loop-row.invariant (let a = c.loop-row-test.true in let b = c.rows-row-end.ensures.value in omega arith)
+    (sym (below_is c.args.tableau.now c.args.vectors c.target_of-target.result c.loop-row.row c.entry_at.result c.target_of-target.ensures.value c.entry_at.ensures) ∙ sym c.is_negative.ensures ∙ c.if-is_negative.true))
+
+pub loop-row-preserved : goal.loop-row-preserved
+loop-row-preserved c =
+    seek_more _ (is_below c.args.tableau.now c.args.vectors) c.loop-row.row (rows_of c.args.tableau.now) c.loop-row.invariant (let a = c.loop-row-test.true in let b = c.rows-row-end.ensures.value in omega arith)
+    (sym (below_is c.args.tableau.now c.args.vectors c.target_of-target.result c.loop-row.row c.entry_at.result c.target_of-target.ensures.value c.entry_at.ensures) ∙ sym c.is_negative.ensures ∙ c.if-is_negative.false)
+
+pub returns : goal.returns
+returns c = settled_yes c.args.tableau.now c.args.vectors
+    (seek_done _ (is_below c.args.tableau.now c.args.vectors) c.loop-row.row (rows_of c.args.tableau.now) c.loop-row.invariant (let a = c.loop-row-test.false in let b = c.rows-row-end.ensures.value in omega arith))

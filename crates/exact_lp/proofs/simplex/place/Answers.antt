@@ -1,0 +1,27 @@
+use Rattle.std.proofs.Common.{◌≡◌, ◌∙◌, sym, ap, arith, rules, ℤ, to_z, of_z}
+use Rattle.std.proofs.lemmas.Int.{to_z-of_z}
+use mir.Syntax.{w128}
+use mir.Val.{SFits}
+use Rattle.exact_forms.specs.Rational.{whole}
+use Rattle.exact_lp.proofs.SquareLists.{start_is, divisor, placed_as}
+use Rattle.exact_lp.proofs.simplex.place.Goals as goal
+
+pub place_on-requires-clause-width : goal.place_on-requires-clause-width
+place_on-requires-clause-width c = let S = start_is c.args.vectors.now c.args.s.now c.in-Ok.tableau c.n-n.ensures.matrix.positive c.in-Ok.ensures in let w = S.width in let v = c.len-vectors_len.ensures.value in omega arith
+
+pub place_on-requires-clause-row : goal.place_on-requires-clause-row
+place_on-requires-clause-row c = (start_is c.args.vectors.now c.args.s.now c.in-Ok.tableau c.n-n.ensures.matrix.positive c.in-Ok.ensures).row
+
+pub place_on-requires-clause-units : goal.place_on-requires-clause-units
+place_on-requires-clause-units c = (start_is c.args.vectors.now c.args.s.now c.in-Ok.tableau c.n-n.ensures.matrix.positive c.in-Ok.ensures).units
+
+whole_is : (d : ℤ) → SFits w128 d → whole (to_z w128 (of_z w128 d)) ≡ whole d
+whole_is d h = ap whole (to_z-of_z w128 d h)
+
+pub place_on-requires-clause-divisor : goal.place_on-requires-clause-divisor
+place_on-requires-clause-divisor c = λ e. divisor c.args.d c.requires.positive (sym (c.whole.ensures ∙ whole_is c.args.d (search rules)) ∙ e)
+
+pub returns-in-Ok : goal.returns-in-Ok
+returns-in-Ok c = record {
+  answer = placed_as c.in-Ok.tableau _ c.len-vectors_len.result _ c.whole.result _ c.args.budget c.place_on.result c.in-Ok.ensures c.len-vectors_len.ensures.value (c.whole.ensures ∙ whole_is c.args.d (search rules)) c.place_on.ensures;
+}

@@ -1,0 +1,18 @@
+use Rattle.std.proofs.Common.{◌≡◌, ◌∙◌, sym, ap, Ok}
+use Rattle.exact_lp.proofs.Choices.{candidate_not_zero}
+use Rattle.exact_lp.proofs.Placing.{step_refused, step_row, step_left}
+use Rattle.exact_lp.proofs.simplex.step.Goals as goal
+
+pub leave-requires-clause-row : goal.leave-requires-clause-row
+leave-requires-clause-row c = (step_row c.args.tableau.now c.args.vectors c.args.entering c.args.firsts.now c.args.ranks.now c.in-Ok-Some.row c.requires.ranks (sym c.leaving_row.ensures ∙ c.in-Ok-Some.is ∙ ap Ok c.in-Ok-Some.field-0-is)).2.row
+
+pub leave-requires-clause-pivot : goal.leave-requires-clause-pivot
+leave-requires-clause-pivot c = candidate_not_zero c.args.tableau.now c.args.vectors c.args.entering c.in-Ok-Some.row (step_row c.args.tableau.now c.args.vectors c.args.entering c.args.firsts.now c.args.ranks.now c.in-Ok-Some.row c.requires.ranks (sym c.leaving_row.ensures ∙ c.in-Ok-Some.is ∙ ap Ok c.in-Ok-Some.field-0-is)).2.candidate
+
+pub returns-in-Ok-Some : goal.returns-in-Ok-Some
+returns-in-Ok-Some c =
+    let r = step_row c.args.tableau.now c.args.vectors c.args.entering c.args.firsts.now c.args.ranks.now c.in-Ok-Some.row c.requires.ranks (sym c.leaving_row.ensures ∙ c.in-Ok-Some.is ∙ ap Ok c.in-Ok-Some.field-0-is) in
+    step_left c.args.tableau.now c.leave.new.tableau c.args.vectors c.args.entering c.args.firsts.now c.in-Ok-Some.row c.leave.result r.0 r.1 c.leave.ensures
+
+pub returns-in-Err : goal.returns-in-Err
+returns-in-Err c = step_refused c.args.tableau.now c.args.vectors c.args.entering c.args.firsts.now c.args.ranks.now c.in-Err.op c.requires.ranks (sym c.leaving_row.ensures ∙ c.in-Err.is)

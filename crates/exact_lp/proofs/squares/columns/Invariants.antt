@@ -1,0 +1,6 @@
+use Rattle.std.proofs.Common.{◌≡◌}
+use Rattle.exact_lp.proofs.SquareLists.{squares_until}
+use Rattle.exact_lp.proofs.squares.columns.Given as goal
+
+abbrev pub invariant-loop-k : goal.invariant-loop-k
+invariant-loop-k l = l.columns.items ≡ squares_until l.vectors l.k

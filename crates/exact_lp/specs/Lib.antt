@@ -1,0 +1,4 @@
+pub mod Program
+pub mod Rule
+pub mod Placement
+pub mod Squares

@@ -1,0 +1,229 @@
+-- The linear program step by step: its operations in their order, and what `place` answers.
+--
+--     Problem              the table over the units, how many vectors there are, and the number that the weights are divided by
+--     first_table p        the table of the first basis; firsts p the columns of the first basis
+--     ranks p              the target's column, then those of the first basis
+--     table_after p k      the table after k steps
+--     entering_at p k, leaving_at p k   the column and the row of the step from there
+--     exchange_at p k      the step, by the two vectors' indices; steps_of p k the first k steps
+--     is_last p k          the target is written by nonnegative coordinates after k steps, or over the first basis already
+--     IsStepDue p k        neither is it so, nor is there no entering vector
+--     weight_at p k v      the coefficient of vector v in the answer Inside, before it is divided
+--     weights_of p k       the weights, in the order of the vectors
+--     zeros_of p k, outside_vector p k   the basic vectors, and the first of the first basis whose entry in the row of t is positive
+--     opening_ops p k      the operations after step k, up to where it is known which of the three ends applies
+--     leg_ops p k          all operations after step k and before the next one, or to the end
+--     legs p k             those of the first k legs
+--     IsRun p steps        these are the first steps, none is lacking, and no operation up to them is owed
+--     IsPlaced p budget a  a is the answer with at most so many steps
+--
+-- Rows, columns and vectors count from 0.
+use Rattle.std.specs.Prelude.{ℕ, zero, suc, ◌+◌, ◌-◌, ◌<◌, ◌≤◌, ◌≡◌, ◌≢◌, pos, Bool, true, false, not, ◌&&◌, ◌||◌, List, [], ◌∷◌, ◌++◌, map, length, Option, Some, None, Result, Ok, Err, if◌then◌else◌, nat_eq}
+use Rattle.std.specs.List.{range_with_len}
+use Rattle.exact_forms.specs.Rational.{Rational, whole, ◌+ℚ◌, ◌/ℚ◌}
+use Rattle.fraction128.specs.Recipes.{add_ops, div_ops}
+use Rattle.symmetric_matrix.specs.Operations.{is_owed}
+use Rattle.symmetric_matrix.specs.Owed.{first_owed}
+use Rattle.exact_linear.specs.declared.entry.EntryOp.{EntryOp}
+use Rattle.exact_linear.specs.Tables.{Table, rows_of, table_entry, basic_at, first_place, places_where}
+use Rattle.exact_linear.specs.Columns.{with_sum}
+use Rattle.exact_linear.specs.Exchange.{entry_is_owed, exchange_ops, exchanged, first_bases, first_ops}
+use Rattle.exact_lp.specs.declared.placed.Exchange.{Exchange}
+use Rattle.exact_lp.specs.declared.placed.PlaceOp.{PlaceOp}
+use Rattle.exact_lp.specs.declared.placed.PlaceOp.TheVariants.{Tableau, Weight}
+use Rattle.exact_lp.specs.declared.placed.Placed.{Placed}
+use Rattle.exact_lp.specs.declared.placed.Placed.TheVariants.{Inside, Outside, Pivots, Wide, OutOfMemory}
+use Rattle.exact_lp.specs.Rule.{target, top, is_positive, or_zero, is_there, row_of, is_basic, top_row, first_columns, is_settled, least_row, is_inside, entering, leaving_row, leaving_ops}
+
+pub record Problem : Type 0 where
+  pub start : Table
+  pub vectors : ℕ
+  pub d : Rational
+
+abbrev pub units : Problem → ℕ
+units p = rows_of p.start
+
+abbrev pub place_is_owed : PlaceOp → Bool
+place_is_owed (Tableau e) = entry_is_owed e
+place_is_owed (Weight v op) = is_owed op
+
+abbrev pub first_owed_in : List PlaceOp → Option PlaceOp
+first_owed_in ops = first_owed place_is_owed ops
+
+abbrev pub first_table : Problem → Table
+first_table p = first_bases p.start p.vectors
+
+abbrev pub firsts : Problem → List ℕ
+firsts p = first_columns (first_table p) p.vectors
+
+abbrev pub ranks : Table → ℕ → List ℕ → List ℕ
+ranks t m firsts = target t m ∷ firsts
+
+-- ---- a step
+unfoldable pub leaving : Table → ℕ → List ℕ → ℕ → Option ℕ
+leaving t m firsts e = leaving_row t m e (ranks t m firsts) None 0 (rows_of t)
+
+unfoldable pub stepped : Table → ℕ → List ℕ → ℕ → Table
+stepped t m firsts e = elim (leaving t m firsts e) as (λ _. Table) [ None ↦ t | Some r ↦ exchanged t r e ]
+
+unfoldable pub step_ops : Table → ℕ → List ℕ → ℕ → List EntryOp
+step_ops t m firsts e =
+    leaving_ops t m e (ranks t m firsts) None 0 (rows_of t) ++ elim (leaving t m firsts e) as (λ _. List EntryOp) [ None ↦ [] | Some r ↦ exchange_ops t r e ]
+
+unfoldable pub exchange_of : Table → ℕ → List ℕ → ℕ → Exchange
+exchange_of t m firsts e = record { entering = e - rows_of t; leaving = basic_at t (or_zero (leaving t m firsts e)) - rows_of t }
+
+-- what the exchange at row r and column c answers, told as a step, with the table after it
+abbrev pub IsLeft : Table → ℕ → ℕ → Table → Result (Option Exchange) EntryOp → Type 0
+IsLeft t r c new (Err op) = first_owed entry_is_owed (exchange_ops t r c) ≡ Some op
+IsLeft t r c new (Ok None) = ⊥
+IsLeft t r c new (Ok (Some made)) =
+    (first_owed entry_is_owed (exchange_ops t r c) ≡ None) × ((made ≡ record { entering = c - rows_of t; leaving = basic_at t r - rows_of t }) × (new ≡ exchanged t r c))
+
+-- what a step from the table t answers, with the table after it
+abbrev pub IsSteppedOption : Table → ℕ → List ℕ → ℕ → Table → Result (Option Exchange) EntryOp → Type 0
+IsSteppedOption t m firsts e new (Err op) = first_owed entry_is_owed (step_ops t m firsts e) ≡ Some op
+IsSteppedOption t m firsts e new (Ok None) = Unit {0}
+IsSteppedOption t m firsts e new (Ok (Some made)) =
+    (first_owed entry_is_owed (step_ops t m firsts e) ≡ None) × ((made ≡ exchange_of t m firsts e) × (new ≡ stepped t m firsts e))
+
+-- ---- the tables
+unfoldable pub opened : Table → ℕ → Table
+opened t m = exchanged (with_sum t) (least_row t m 0 1 (rows_of t - 1)) (top t m)
+
+unfoldable pub opened_ops : Table → ℕ → List EntryOp
+opened_ops t m = exchange_ops (with_sum t) (least_row t m 0 1 (rows_of t - 1)) (top t m)
+
+unfoldable pub table_after : Problem → ℕ → Table
+table_after p zero = opened (first_table p) p.vectors
+table_after p (suc k) = stepped (table_after p k) p.vectors (firsts p) (or_zero (entering (table_after p k) p.vectors))
+
+abbrev pub is_settled_first : Problem → Bool
+is_settled_first p = is_settled (first_table p) p.vectors
+
+unfoldable pub steps_of : Problem → ℕ → List Exchange
+steps_of p zero = []
+steps_of p (suc k) = steps_of p k ++ exchange_of (table_after p k) p.vectors (firsts p) (or_zero (entering (table_after p k) p.vectors)) ∷ []
+
+unfoldable pub is_last : Problem → ℕ → Bool
+is_last p k = is_settled_first p || is_inside (table_after p k) p.vectors
+
+pub record IsStepDue (p : Problem) (k : ℕ) : Type 0 where
+  pub not_last : is_last p k ≡ false
+  pub vector : is_there (entering (table_after p k) p.vectors) ≡ true
+
+-- ---- the ends
+abbrev pub contains : List ℕ → ℕ → Bool
+contains [] x = false
+contains (y ∷ ys) x = nat_eq y x || contains ys x
+
+abbrev pub at_target : Table → ℕ → ℕ → Rational
+at_target t m c = elim (row_of t c) as (λ _. Rational) [ None ↦ whole (pos 0) | Some i ↦ table_entry t i (target t m) ]
+
+-- whether t's coefficient is added to that of vector v
+abbrev pub is_raised : Table → ℕ → List ℕ → ℕ → Bool
+is_raised t m firsts v = is_basic t (top t m) && contains firsts (rows_of t + v)
+
+unfoldable pub coefficient : Table → ℕ → List ℕ → ℕ → Rational
+coefficient t m firsts v =
+    if is_raised t m firsts v then at_target t m (rows_of t + v) +ℚ at_target t m (top t m) else at_target t m (rows_of t + v)
+
+unfoldable pub coefficient_ops : Table → ℕ → List ℕ → Rational → ℕ → List PlaceOp
+coefficient_ops t m firsts d v =
+    (if is_raised t m firsts v then map (Weight v) (add_ops (at_target t m (rows_of t + v)) (at_target t m (top t m))) else [])
+    ++ map (Weight v) (div_ops (coefficient t m firsts v) d)
+
+-- from vector v on, n being left
+unfoldable pub weight_ops : Table → ℕ → List ℕ → Rational → ℕ → ℕ → List PlaceOp
+weight_ops t m firsts d v zero = []
+weight_ops t m firsts d v (suc n) = coefficient_ops t m firsts d v ++ weight_ops t m firsts d (v + 1) n
+
+unfoldable pub weights : Table → ℕ → List ℕ → Rational → ℕ → List Rational
+weights t m firsts d n = map (λ v. coefficient t m firsts v /ℚ d) (range_with_len 0 n)
+
+abbrev pub last_table : Problem → ℕ → Table
+last_table p k = if is_settled_first p then first_table p else table_after p k
+
+abbrev pub is_basic_vector : Table → ℕ → Bool
+is_basic_vector t v = is_basic t (rows_of t + v)
+
+unfoldable pub zeros_of : Table → ℕ → List ℕ
+zeros_of t m = places_where (is_basic_vector t) 0 m
+
+-- the first of the columns with a positive entry in row r
+unfoldable pub first_above : Table → ℕ → List ℕ → ℕ
+first_above t r [] = 0
+first_above t r (c ∷ cs) = if is_positive (table_entry t r c) then c else first_above t r cs
+
+abbrev pub outside_vector : Table → ℕ → List ℕ → ℕ
+outside_vector t m firsts = first_above t (top_row t m) firsts - rows_of t
+
+-- what the weights of a table answer
+abbrev pub IsWeighed : Table → ℕ → List ℕ → Rational → List Exchange → Placed → Type 0
+IsWeighed t m firsts d steps (Inside found made) = (made ≡ steps) × ((first_owed_in (weight_ops t m firsts d 0 m) ≡ None) × (found ≡ weights t m firsts d m))
+IsWeighed t m firsts d steps (Outside zeros vector made) = ⊥
+IsWeighed t m firsts d steps (Pivots made) = ⊥
+IsWeighed t m firsts d steps (Wide op made) = (made ≡ steps) × (first_owed_in (weight_ops t m firsts d 0 m) ≡ Some op)
+IsWeighed t m firsts d steps OutOfMemory = Unit {0}
+
+-- what the basis of a table answers
+abbrev pub IsOutsideAnswer : Table → ℕ → List ℕ → List Exchange → Placed → Type 0
+IsOutsideAnswer t m firsts steps (Inside found made) = ⊥
+IsOutsideAnswer t m firsts steps (Outside zeros vector made) = (made ≡ steps) × ((zeros ≡ zeros_of t m) × (vector ≡ outside_vector t m firsts))
+IsOutsideAnswer t m firsts steps (Pivots made) = ⊥
+IsOutsideAnswer t m firsts steps (Wide op made) = ⊥
+IsOutsideAnswer t m firsts steps OutOfMemory = Unit {0}
+
+-- ---- the operations
+unfoldable pub opening_ops : Problem → ℕ → List PlaceOp
+opening_ops p zero =
+    map Tableau (first_ops p.start p.vectors) ++ (if is_settled_first p then [] else map Tableau (opened_ops (first_table p) p.vectors))
+opening_ops p (suc k) = []
+
+unfoldable pub closing_ops : Problem → ℕ → List PlaceOp
+closing_ops p k =
+    if is_last p k then weight_ops (last_table p k) p.vectors (firsts p) p.d 0 p.vectors
+    else elim (entering (table_after p k) p.vectors) as (λ _. List PlaceOp) [ None ↦ [] | Some e ↦ map Tableau (step_ops (table_after p k) p.vectors (firsts p) e) ]
+
+abbrev pub leg_ops : Problem → ℕ → List PlaceOp
+leg_ops p k = opening_ops p k ++ closing_ops p k
+
+unfoldable pub legs : Problem → ℕ → List PlaceOp
+legs p zero = []
+legs p (suc k) = legs p k ++ leg_ops p k
+
+-- ---- the answer
+pub record IsRun (p : Problem) (budget : ℕ) (steps : List Exchange) : Type 0 where
+  pub are : steps ≡ steps_of p (length steps)
+  pub due : (k : ℕ) → k < length steps → IsStepDue p k
+  pub owes : first_owed_in (legs p (length steps)) ≡ None
+  pub within : length steps ≤ budget
+
+pub record IsInsideAfter (p : Problem) (found : List Rational) (k : ℕ) : Type 0 where
+  pub last : is_last p k ≡ true
+  pub owes : first_owed_in (leg_ops p k) ≡ None
+  pub found_are : found ≡ weights (last_table p k) p.vectors (firsts p) p.d p.vectors
+
+pub record IsOutsideAfter (p : Problem) (zeros : List ℕ) (vector k : ℕ) : Type 0 where
+  pub not_last : is_last p k ≡ false
+  pub none : entering (table_after p k) p.vectors ≡ None
+  pub owes : first_owed_in (leg_ops p k) ≡ None
+  pub zeros_are : zeros ≡ zeros_of (table_after p k) p.vectors
+  pub vector_is : vector ≡ outside_vector (table_after p k) p.vectors (firsts p)
+
+pub record IsRefusedAfter (p : Problem) (budget k : ℕ) : Type 0 where
+  pub used : k ≡ budget
+  pub due : IsStepDue p k
+  pub owes : first_owed_in (opening_ops p k) ≡ None
+
+-- where no step is left the operations end before those of the next one
+pub record IsOwedAfter (p : Problem) (budget : ℕ) (op : PlaceOp) (k : ℕ) : Type 0 where
+  pub first : first_owed_in (leg_ops p k) ≡ Some op
+  pub before : k ≡ budget → IsStepDue p k → first_owed_in (opening_ops p k) ≡ Some op
+
+abbrev pub IsPlaced : Problem → ℕ → Placed → Type 0
+IsPlaced p budget (Inside found steps) = IsRun p budget steps × IsInsideAfter p found (length steps)
+IsPlaced p budget (Outside zeros vector steps) = IsRun p budget steps × IsOutsideAfter p zeros vector (length steps)
+IsPlaced p budget (Pivots steps) = IsRun p budget steps × IsRefusedAfter p budget (length steps)
+IsPlaced p budget (Wide op steps) = IsRun p budget steps × IsOwedAfter p budget op (length steps)
+IsPlaced p budget OutOfMemory = Unit {0}

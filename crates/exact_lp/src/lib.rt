@@ -1,0 +1,13 @@
+//! Membership of a matrix in the cone of the matrices v·vᵗ of a list of vectors, by an exact linear program.
+#![tactic(auto)]
+
+mod ends;
+mod lists;
+mod placed;
+mod rule;
+mod simplex;
+mod squares;
+
+pub use lists::{Exchanges, Indices, Weights};
+pub use simplex::place;
+pub use placed::{Exchange, PlaceOp, Placed};

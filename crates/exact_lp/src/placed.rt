@@ -1,0 +1,48 @@
+//! What the linear program answers.
+
+use crate::lists::{Exchanges, Indices, Weights};
+use exact_linear::EntryOp;
+use symmetric_matrix::IntOp;
+
+/// A step: the vector that comes into the basis and the one that leaves it, by their indices, counted from 0.
+#[derive(Clone, Copy, Debug, PartialEq, Eq)]
+pub struct Exchange {
+    pub entering: usize,
+    pub leaving: usize,
+}
+
+/// The operation that is refused: on entries of the tableau, or for the weight of the vector with that index.
+#[derive(Clone, Copy, Debug, PartialEq, Eq)]
+pub enum PlaceOp {
+    Tableau(EntryOp),
+    Weight { vector: usize, op: IntOp },
+}
+
+/// Whether a matrix is a nonnegative combination of the matrices v·vᵗ of a list of vectors, with the steps that were made.
+///
+/// - `Inside`: it is, with these weights, one for each vector.
+/// - `Outside`: it is not. There is a matrix that is zero at the vectors `zeros` and positive at the vector `leaving`, at
+///   least 0 at each vector of the list, and whose inner product with it is negative.
+/// - `Pivots`: another step is due, and the budget of steps is used.
+/// - `Wide`: an operation does not fit, the first one after the steps.
+/// - `OutOfMemory`: for want of memory. It may come at any time.
+#[derive(Debug, Drop)]
+pub enum Placed {
+    Inside {
+        weights: Weights,
+        steps: Exchanges,
+    },
+    Outside {
+        zeros: Indices,
+        leaving: usize,
+        steps: Exchanges,
+    },
+    Pivots {
+        steps: Exchanges,
+    },
+    Wide {
+        op: PlaceOp,
+        steps: Exchanges,
+    },
+    OutOfMemory,
+}
