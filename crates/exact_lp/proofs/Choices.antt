@@ -171,11 +171,11 @@ unfolding beats
 compare_both t e b i cs k c x y o C l h f g r =
     let best = answer-append_ok entry_is_owed (divide_entry b c (table_entry t b c) (table_entry t b e)) [] (ratio_at t e b c) x (tt {0}) f in
     let own = answer-append_ok entry_is_owed (divide_entry i c (table_entry t i c) (table_entry t i e)) (elim (order_of (ratio_at t e i c) (ratio_at t e b c)) as (λ _. List EntryOp) [ Less ↦ [] | Equal ↦ versus_ops t e b i (drop (k + 1) cs) | Greater ↦ [] ])
-        (ratio_at t e i c) y (beats t e b i (c ∷ drop (k + 1) cs)) g in
+    (ratio_at t e i c) y (beats t e b i (c ∷ drop (k + 1) cs)) g in
     let same : order_of (ratio_at t e i c) (ratio_at t e b c) ≡ o = ap₂ (λ (y : Rational) (x : Rational). order_of y x) own.1 best.1 ∙ sym r in
     after_best t e b i cs k c x C l h f ∙ own.0
     ∙ ap (λ (o : Ordering). answer entry_is_owed (elim o as (λ _. List EntryOp) [ Less ↦ [] | Equal ↦ versus_ops t e b i (drop (k + 1) cs) | Greater ↦ [] ])
-        (elim o as (λ _. Bool) [ Less ↦ true | Equal ↦ beats t e b i (drop (k + 1) cs) | Greater ↦ false ])) same
+    (elim o as (λ _. Bool) [ Less ↦ true | Equal ↦ beats t e b i (drop (k + 1) cs) | Greater ↦ false ])) same
 
 pub compare_done : (t : Table) (e b i : ℕ) (cs : List ℕ) (k : ℕ) → IsComparing t e b i cs k → length cs ≤ k → Ok false ≡ answer entry_is_owed (versus_ops t e b i cs) (beats t e b i cs)
 unfolding versus_ops beats answer
@@ -205,7 +205,7 @@ unfolding leaving_ops leaving_row
 at_row t m e cs best i b l h =
     ap (λ (k : ℕ). answer entry_is_owed (leaving_ops t m e cs best i k) (leaving_row t m e cs best i k)) (let e : rows_of t - i ≡ suc (rows_of t - (i + 1)) = omega arith in e)
     ∙ ap (λ (b : Bool). answer entry_is_owed ((if b then better_ops t e cs best i else []) ++ leaving_ops t m e cs (if b then better t e cs best i else best) (i + 1) (rows_of t - (i + 1)))
-        (leaving_row t m e cs (if b then better t e cs best i else best) (i + 1) (rows_of t - (i + 1)))) h
+    (leaving_row t m e cs (if b then better t e cs best i else best) (i + 1) (rows_of t - (i + 1)))) h
 
 pub best_passed : (t : Table) (m e : ℕ) (cs : List ℕ) (best : Option ℕ) (i : ℕ) → IsBestSoFar t m e cs best i → i < rows_of t → is_candidate t m e i ≡ false → IsBestSoFar t m e cs best (i + 1)
 best_passed t m e cs best i S l h = record { same = S.same ∙ at_row t m e cs best i false l h; found = S.found }
@@ -229,7 +229,7 @@ pub best_more : (t : Table) (m e : ℕ) (cs : List ℕ) (best new : Option ℕ) 
     → answer entry_is_owed (better_ops t e cs best i) (better t e cs best i) ≡ Ok new → IsBestSoFar t m e cs new (i + 1)
 best_more t m e cs best new i S l h f =
     let made = answer-append_ok entry_is_owed (better_ops t e cs best i) (leaving_ops t m e cs (better t e cs best i) (i + 1) (rows_of t - (i + 1))) (better t e cs best i) new
-        (leaving_row t m e cs (better t e cs best i) (i + 1) (rows_of t - (i + 1))) f in
+    (leaving_row t m e cs (better t e cs best i) (i + 1) (rows_of t - (i + 1))) f in
     record {
       same = S.same ∙ at_row t m e cs best i true l h ∙ made.0
           ∙ ap (λ (b : Option ℕ). answer entry_is_owed (leaving_ops t m e cs b (i + 1) (rows_of t - (i + 1))) (leaving_row t m e cs b (i + 1) (rows_of t - (i + 1)))) made.1;

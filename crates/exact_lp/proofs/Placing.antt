@@ -96,36 +96,47 @@ not_due : (p : Problem) (k : ℕ) → is_last p k ≡ true → IsStepDue p k →
 not_due p k h d = let n = d.not_last in cc
 
 pub wide_first : (p : Problem) (budget : ℕ) (steps : List Exchange) (op : EntryOp) → steps ≡ [] → first_owed entry_is_owed (first_ops p.start p.vectors) ≡ Some op → IsPlaced p budget (Wide (Tableau op) steps)
-wide_first p budget steps op e h = (run_none p budget steps e, subst (λ (steps : List Exchange). IsOwedAfter p budget (Tableau op) (length steps)) (sym e) record {
-  first = first_owed-append_some place_is_owed (opening_ops p 0) (closing_ops p 0) (Tableau op) (opening_refused p op h);
-  before = λ b d. opening_refused p op h;
-})
+wide_first p budget steps op e h = (
+  run_none p budget steps e,
+  subst (λ (steps : List Exchange). IsOwedAfter p budget (Tableau op) (length steps)) (sym e) record {
+    first = first_owed-append_some place_is_owed (opening_ops p 0) (closing_ops p 0) (Tableau op) (opening_refused p op h);
+    before = λ b d. opening_refused p op h;
+  },
+)
 
 pub wide_open : (p : Problem) (budget : ℕ) (steps : List Exchange) (op : EntryOp) → steps ≡ [] → first_owed entry_is_owed (first_ops p.start p.vectors) ≡ None → is_settled_first p ≡ false
     → first_owed entry_is_owed (opened_ops (first_table p) p.vectors) ≡ Some op → IsPlaced p budget (Wide (Tableau op) steps)
 wide_open p budget steps op e n s h =
-    let o : first_owed_in (opening_ops p 0) ≡ Some (Tableau op) = opening_unsettled p n s ∙ tableau_some _ op h in
-    (run_none p budget steps e, subst (λ (steps : List Exchange). IsOwedAfter p budget (Tableau op) (length steps)) (sym e) record {
-      first = first_owed-append_some place_is_owed (opening_ops p 0) (closing_ops p 0) (Tableau op) o;
-      before = λ b d. o;
-    })
+    let o : first_owed_in (opening_ops p 0) ≡ Some (Tableau op) = opening_unsettled p n s ∙ tableau_some _ op h in (
+      run_none p budget steps e,
+      subst (λ (steps : List Exchange). IsOwedAfter p budget (Tableau op) (length steps)) (sym e) record {
+        first = first_owed-append_some place_is_owed (opening_ops p 0) (closing_ops p 0) (Tableau op) o;
+        before = λ b d. o;
+      },
+    )
 
 -- ---- the weights
 pub weighed : (p : Problem) (budget : ℕ) (t : Table) (cs : List ℕ) (steps : List Exchange) (r : Placed) → IsRun p budget steps → is_last p (length steps) ≡ true
     → first_owed_in (opening_ops p (length steps)) ≡ None → t ≡ last_table p (length steps) → cs ≡ firsts p → IsWeighed t p.vectors cs p.d steps r → IsPlaced p budget r
 weighed p budget t cs steps (Inside found made) R l o e f W =
-    subst (λ (made : List Exchange). IsRun p budget made × IsInsideAfter p found (length made)) (sym W.0) (R, record {
-      last = l;
-      owes = leg_then p (length steps) _ o (closing_last p (length steps) l) ∙ sym (ap₂ (λ (t : Table) (cs : List ℕ). first_owed_in (weight_ops t p.vectors cs p.d 0 p.vectors)) e f) ∙ W.1.0;
-      found_are = W.1.1 ∙ ap₂ (λ (t : Table) (cs : List ℕ). weights t p.vectors cs p.d p.vectors) e f;
-    })
+    subst (λ (made : List Exchange). IsRun p budget made × IsInsideAfter p found (length made)) (sym W.0) (
+      R,
+      record {
+        last = l;
+        owes = leg_then p (length steps) _ o (closing_last p (length steps) l) ∙ sym (ap₂ (λ (t : Table) (cs : List ℕ). first_owed_in (weight_ops t p.vectors cs p.d 0 p.vectors)) e f) ∙ W.1.0;
+        found_are = W.1.1 ∙ ap₂ (λ (t : Table) (cs : List ℕ). weights t p.vectors cs p.d p.vectors) e f;
+      },
+    )
 weighed p budget t cs steps (Outside zeros vector made) R l o e f W = absurd W
 weighed p budget t cs steps (Pivots made) R l o e f W = absurd W
 weighed p budget t cs steps (Wide op made) R l o e f W =
-    subst (λ (made : List Exchange). IsRun p budget made × IsOwedAfter p budget op (length made)) (sym W.0) (R, record {
-      first = leg_then p (length steps) _ o (closing_last p (length steps) l) ∙ sym (ap₂ (λ (t : Table) (cs : List ℕ). first_owed_in (weight_ops t p.vectors cs p.d 0 p.vectors)) e f) ∙ W.1;
-      before = λ b d. absurd (not_due p (length steps) l d);
-    })
+    subst (λ (made : List Exchange). IsRun p budget made × IsOwedAfter p budget op (length made)) (sym W.0) (
+      R,
+      record {
+        first = leg_then p (length steps) _ o (closing_last p (length steps) l) ∙ sym (ap₂ (λ (t : Table) (cs : List ℕ). first_owed_in (weight_ops t p.vectors cs p.d 0 p.vectors)) e f) ∙ W.1;
+        before = λ b d. absurd (not_due p (length steps) l d);
+      },
+    )
 weighed p budget t cs steps OutOfMemory R l o e f W = tt
 
 settled_last : (p : Problem) (k : ℕ) → is_settled_first p ≡ true → (is_last p k ≡ true) × (last_table p k ≡ first_table p)
@@ -201,13 +212,16 @@ module _ (p : Problem) (budget : ℕ) (t : Table) (cs rs : List ℕ) (steps : Li
   pub at_outside : (r : Placed) → is_inside t p.vectors ≡ false → entering t p.vectors ≡ None → IsOutsideAnswer t p.vectors cs steps r → IsPlaced p budget r
   at_outside (Inside found made) h e W = absurd W
   at_outside (Outside zeros vector made) h e W =
-      subst (λ (made : List Exchange). IsRun p budget made × IsOutsideAfter p zeros vector (length made)) (sym W.0) (A.run, record {
-        not_last = last_is false h;
-        none = entering_is None e;
-        owes = leg_then p (length steps) _ A.opening (closing_step p (length steps) None (last_is false h) (entering_is None e)) ∙ nothing_owed;
-        zeros_are = W.1.0 ∙ ap (λ (t : Table). zeros_of t p.vectors) A.table;
-        vector_is = W.1.1 ∙ ap₂ (λ (t : Table) (cs : List ℕ). outside_vector t p.vectors cs) A.table A.firsts_are;
-      })
+      subst (λ (made : List Exchange). IsRun p budget made × IsOutsideAfter p zeros vector (length made)) (sym W.0) (
+        A.run,
+        record {
+          not_last = last_is false h;
+          none = entering_is None e;
+          owes = leg_then p (length steps) _ A.opening (closing_step p (length steps) None (last_is false h) (entering_is None e)) ∙ nothing_owed;
+          zeros_are = W.1.0 ∙ ap (λ (t : Table). zeros_of t p.vectors) A.table;
+          vector_is = W.1.1 ∙ ap₂ (λ (t : Table) (cs : List ℕ). outside_vector t p.vectors cs) A.table A.firsts_are;
+        },
+      )
   at_outside (Pivots made) h e W = absurd W
   at_outside (Wide op made) h e W = absurd W
   at_outside OutOfMemory h e W = tt
@@ -328,9 +342,11 @@ step_left t new m e cs r (Err op) n h L =
     ∙ first_owed-append_none entry_is_owed (leaving_ops t m e (target t m ∷ cs) None 0 (rows_of t)) (exchange_ops t r e) n ∙ L
 step_left t new m e cs r (Ok None) n h L = tt
 step_left t new m e cs r (Ok (Some made)) n h L =
-    let s = stepped_is t m e cs r h in
-    (ap (λ (ops : List EntryOp). first_owed entry_is_owed ops) (step_ops_is t m e cs (Some r) h)
-    ∙ first_owed-append_none entry_is_owed (leaving_ops t m e (target t m ∷ cs) None 0 (rows_of t)) (exchange_ops t r e) n ∙ L.0, (L.1.0 ∙ sym s.1, L.1.1 ∙ sym s.0))
+    let s = stepped_is t m e cs r h in (
+      ap (λ (ops : List EntryOp). first_owed entry_is_owed ops) (step_ops_is t m e cs (Some r) h)
+          ∙ first_owed-append_none entry_is_owed (leaving_ops t m e (target t m ∷ cs) None 0 (rows_of t)) (exchange_ops t r e) n ∙ L.0,
+      (L.1.0 ∙ sym s.1, L.1.1 ∙ sym s.0),
+    )
 
 pub err_owed : (ops : List EntryOp) (op : EntryOp) → answer entry_is_owed ops (tt {0}) ≡ Err op → first_owed entry_is_owed ops ≡ Some op
 err_owed ops op h = err_first entry_is_owed ops (tt {0}) op h
@@ -362,9 +378,11 @@ first_within t (suc k) n h l i li =
 pub last_free : (start t : Table) (m : ℕ) → t ≡ first_bases start m → ((i : ℕ) → i < rows_of start → basic_at start i < rows_of start) → rows_of start + m + 2 ≡ start.width → IsLastFree t
 last_free start t m e h w =
     let shape = first_shape start m in
-    subst (λ (t : Table). IsLastFree t) (sym e) record { free = λ i l s.
-        let b = first_within start m (rows_of start + m) (λ i l. let a = h i l in omega arith) (omega arith) i (omega arith) in
-        let x = shape.0 in omega arith }
+    subst (λ (t : Table). IsLastFree t) (sym e) record {
+      free = λ i l s.
+          let b = first_within start m (rows_of start + m) (λ i l. let a = h i l in omega arith) (omega arith) i (omega arith) in
+          let x = shape.0 in omega arith;
+    }
 
 -- ---- the columns of the first basis are columns
 pub ranks_columns : (t : Table) (m : ℕ) (cs rs : List ℕ) → rs ≡ target t m ∷ cs → AreColumns t cs → rows_of t + m + 2 ≤ t.width → AreColumns t rs
@@ -387,10 +405,12 @@ places_bound test i (suc n) k l = by (test i) k (λ k l. let r = places_bound te
 
 pub firsts_columns : (f t : Table) (m : ℕ) (cs : List ℕ) → cs ≡ first_columns f m → rows_of f + m + 2 ≤ f.width → t.width ≡ f.width → AreColumns t cs
 unfolding first_columns
-firsts_columns f t m cs e w s = record { within = λ k l.
-    let b = places_bound (is_basic f) (rows_of f) m k (subst (λ (cs : List ℕ). k < length cs) e l) in
-    let g : get_or cs k 0 ≡ get_or (places_where (is_basic f) (rows_of f) m) k 0 = ap (λ (cs : List ℕ). get_or cs k 0) e in
-    omega arith }
+firsts_columns f t m cs e w s = record {
+  within = λ k l.
+      let b = places_bound (is_basic f) (rows_of f) m k (subst (λ (cs : List ℕ). k < length cs) e l) in
+      let g : get_or cs k 0 ≡ get_or (places_where (is_basic f) (rows_of f) m) k 0 = ap (λ (cs : List ℕ). get_or cs k 0) e in
+      omega arith;
+}
 
 -- ---- what the calls gave
 pub no_error : (r : Result (Unit {0}) EntryOp) (ops : List EntryOp) → r ≡ answer entry_is_owed ops (tt {0}) → ((e : EntryOp) → r ≡ Err e → ⊥) → (first_owed entry_is_owed ops ≡ None) × (r ≡ Ok (tt {0}))

@@ -37,17 +37,19 @@ one_more i n l = omega arith
 
 pub gather_take : (whole xs ys : List ℕ) (test : ℕ → Bool) (i n : ℕ) → IsGathered whole xs test i n → i < n → test i ≡ true → ys ≡ xs ++ i ∷ [] → IsGathered whole ys test (i + 1) n
 unfolding places_where
-gather_take whole xs ys test i n G l t e = record { same =
-    ap (λ (ys : List ℕ). ys ++ places_where test (i + 1) (n - (i + 1))) e ∙ append_assoc xs (i ∷ []) (places_where test (i + 1) (n - (i + 1)))
-    ∙ sym (ap (λ (k : ℕ). xs ++ places_where test i k) (one_more i n l) ∙ ap (λ (b : Bool). xs ++ (if b then i ∷ places_where test (i + 1) (n - (i + 1)) else places_where test (i + 1) (n - (i + 1)))) t)
-    ∙ G.same
+gather_take whole xs ys test i n G l t e = record {
+  same =
+      ap (λ (ys : List ℕ). ys ++ places_where test (i + 1) (n - (i + 1))) e ∙ append_assoc xs (i ∷ []) (places_where test (i + 1) (n - (i + 1)))
+      ∙ sym (ap (λ (k : ℕ). xs ++ places_where test i k) (one_more i n l) ∙ ap (λ (b : Bool). xs ++ (if b then i ∷ places_where test (i + 1) (n - (i + 1)) else places_where test (i + 1) (n - (i + 1)))) t)
+      ∙ G.same;
 }
 
 pub gather_skip : (whole xs : List ℕ) (test : ℕ → Bool) (i n : ℕ) → IsGathered whole xs test i n → i < n → test i ≡ false → IsGathered whole xs test (i + 1) n
 unfolding places_where
-gather_skip whole xs test i n G l t = record { same =
-    sym (ap (λ (k : ℕ). xs ++ places_where test i k) (one_more i n l) ∙ ap (λ (b : Bool). xs ++ (if b then i ∷ places_where test (i + 1) (n - (i + 1)) else places_where test (i + 1) (n - (i + 1)))) t)
-    ∙ G.same
+gather_skip whole xs test i n G l t = record {
+  same =
+      sym (ap (λ (k : ℕ). xs ++ places_where test i k) (one_more i n l) ∙ ap (λ (b : Bool). xs ++ (if b then i ∷ places_where test (i + 1) (n - (i + 1)) else places_where test (i + 1) (n - (i + 1)))) t)
+      ∙ G.same;
 }
 
 pub gather_done : (whole xs : List ℕ) (test : ℕ → Bool) (i n : ℕ) → IsGathered whole xs test i n → n ≤ i → xs ≡ whole

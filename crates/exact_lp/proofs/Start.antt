@@ -15,7 +15,6 @@ use Rattle.exact_forms.proofs.Coordinates.{mark_off, basis_mark, exchange_keeps}
 use Rattle.exact_linear.proofs.Exchanges.{by_one}
 use Rattle.exact_lp.proofs.Outcome.{top_at_chosen, top_not_chosen, first_apart}
 
-
 module _ (P : Program) (start : ℕ → ℕ → Rational) (R : IsProgram P start) where
   pub start_state : (i : ℕ) → IsLeastPlace P start i → IsState P (swapped P.chosen (P.first i) P.top) (exchanged start (P.first i) P.top)
   unfolding order

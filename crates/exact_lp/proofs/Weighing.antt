@@ -82,7 +82,7 @@ pub raised_answer : (t : Table) (m : ℕ) (cs : List ℕ) (v : ℕ) → is_raise
 unfolding coefficient
 raised_answer t m cs v h =
     sym (ap (λ (b : Bool). answer place_is_owed (if b then map (Weight v) (add_ops (at_target t m (rows_of t + v)) (at_target t m (top t m))) else [])
-        (if b then at_target t m (rows_of t + v) +ℚ at_target t m (top t m) else at_target t m (rows_of t + v))) h)
+    (if b then at_target t m (rows_of t + v) +ℚ at_target t m (top t m) else at_target t m (rows_of t + v))) h)
 
 pub plain_answer : (t : Table) (m : ℕ) (cs : List ℕ) (v : ℕ) → is_raised t m cs v ≡ false
     → Ok (at_target t m (rows_of t + v))
@@ -90,7 +90,7 @@ pub plain_answer : (t : Table) (m : ℕ) (cs : List ℕ) (v : ℕ) → is_raised
 unfolding coefficient
 plain_answer t m cs v h =
     sym (ap (λ (b : Bool). answer place_is_owed (if b then map (Weight v) (add_ops (at_target t m (rows_of t + v)) (at_target t m (top t m))) else [])
-        (if b then at_target t m (rows_of t + v) +ℚ at_target t m (top t m) else at_target t m (rows_of t + v))) h ∙ answer_nothing place_is_owed (at_target t m (rows_of t + v)))
+    (if b then at_target t m (rows_of t + v) +ℚ at_target t m (top t m) else at_target t m (rows_of t + v))) h ∙ answer_nothing place_is_owed (at_target t m (rows_of t + v)))
 
 abbrev pub raise_ops : Table → ℕ → List ℕ → ℕ → List PlaceOp
 raise_ops t m cs v = if is_raised t m cs v then map (Weight v) (add_ops (at_target t m (rows_of t + v)) (at_target t m (top t m))) else []

@@ -9,5 +9,5 @@ mod simplex;
 mod squares;
 
 pub use lists::{Exchanges, Indices, Weights};
-pub use simplex::place;
 pub use placed::{Exchange, PlaceOp, Placed};
+pub use simplex::place;

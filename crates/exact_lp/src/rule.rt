@@ -187,12 +187,7 @@ pub fn entering(tableau: &Tableau, vectors: usize) -> Option<usize>
 }
 
 // The entry of a row in a column, divided by its entry in the entering column.
-fn ratio(
-    tableau: &Tableau,
-    entering: usize,
-    row: usize,
-    column: usize,
-) -> Result<Fraction, EntryOp>
+fn ratio(tableau: &Tableau, entering: usize, row: usize, column: usize) -> Result<Fraction, EntryOp>
     requires row { row < rows_of tableau.now }
     requires column { column < tableau.now.width }
     requires entering { entering < tableau.now.width }

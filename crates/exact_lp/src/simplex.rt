@@ -14,9 +14,12 @@ ghost use Rattle.exact_lp.specs.Squares.{problem_of};
 use crate::ends::{inside, outside};
 use crate::lists::Exchanges;
 use crate::placed::{Exchange, PlaceOp, Placed};
-use crate::rule::{basic_of, entering, first_columns, is_inside, is_settled, least_row, leaving_row, target_of, top_of};
-use exact_linear::{EntryOp, Tableau};
+use crate::rule::{
+    basic_of, entering, first_columns, is_inside, is_settled, least_row, leaving_row, target_of,
+    top_of,
+};
 use crate::squares::start;
+use exact_linear::{EntryOp, Tableau};
 use fraction128::Fraction;
 use std::alloc::{AllocError, Global};
 use symmetric_matrix::{SymInt, VectorList};
@@ -98,13 +101,7 @@ fn ranks(alloc: Global, target: usize, firsts: &[usize]) -> Result<Vec<usize>, A
 
 // The linear program on the tableau over the units, whose further columns are the vectors' matrices, the target and the
 // reserved column.
-fn place_on(
-    alloc: Global,
-    start: Tableau,
-    vectors: usize,
-    d: Fraction,
-    budget: usize,
-) -> Placed
+fn place_on(alloc: Global, start: Tableau, vectors: usize, d: Fraction, budget: usize) -> Placed
     requires width { rows_of start + vectors + 2 ≡ start.width }
     requires row { 1 ≤ rows_of start }
     requires units { (i : ℕ) → i < rows_of start → basic_at start i < rows_of start }
@@ -162,13 +159,7 @@ fn place_on(
 /// matrix Z has Z\[v\] = 0 at each vector), and d is at least 1. The answer is `Pivots` exactly where another step is due after
 /// `budget` of them and no operation up to then is owed, and `Wide` exactly where that operation is the first owed one after
 /// the steps. Want of memory may come at any time.
-pub fn place(
-    alloc: Global,
-    vectors: &VectorList,
-    s: &SymInt,
-    d: i128,
-    budget: u32,
-) -> Placed
+pub fn place(alloc: Global, vectors: &VectorList, s: &SymInt, d: i128, budget: u32) -> Placed
     requires one_length { (k : ℕ) → k < length vectors.now → length (slice_index_or vectors.now k []) ≡ s.now.size }
     requires spans { IsPerfect s.now.size vectors.now }
     requires positive { pos 1 ≤ℤ d }

@@ -32,9 +32,10 @@ returns-in-Greater c =
     (sym c.ratio.ensures ∙ c.in_ok-other.was) (sym c.ratio-in-loop-column.ensures ∙ c.in_ok-own.was) c.in-Greater.ensures.order ∙ answer_nothing entry_is_owed false)
 
 pub loop-column-preserved : goal.loop-column-preserved
-loop-column-preserved c = record { same =
-    compare_both c.args.tableau.now c.args.entering c.args.best c.args.row c.args.columns.now c.loop-column.column-index (get_or c.args.columns.now c.loop-column.column-index 0) c.in_ok-other.other c.in_ok-own.own Equal c.loop-column.invariant c.loop-column-test.true refl
-    (sym c.ratio.ensures ∙ c.in_ok-other.was) (sym c.ratio-in-loop-column.ensures ∙ c.in_ok-own.was) c.in-Equal.ensures.order
+loop-column-preserved c = record {
+  same =
+      compare_both c.args.tableau.now c.args.entering c.args.best c.args.row c.args.columns.now c.loop-column.column-index (get_or c.args.columns.now c.loop-column.column-index 0) c.in_ok-other.other c.in_ok-own.own Equal c.loop-column.invariant c.loop-column-test.true refl
+      (sym c.ratio.ensures ∙ c.in_ok-other.was) (sym c.ratio-in-loop-column.ensures ∙ c.in_ok-own.was) c.in-Equal.ensures.order;
 }
 
 pub returns : goal.returns

@@ -9,8 +9,10 @@ returns-in-Err c = err_owed (exchange_ops c.args.tableau.now c.args.row c.args.c
 pub returns-in-Ok : goal.returns-in-Ok
 returns-in-Ok c = (
   ok_owed (exchange_ops c.args.tableau.now c.args.row c.args.column) (sym c.exchange_at.ensures.refused ∙ c.in-Ok.is),
-  (same_exchange _ _ _ _
-  (c.saturating_sub.ensures ∙ ap (λ (n : ℕ). c.args.column - n) c.rows-units.ensures.value)
-  (c.saturating_sub-in-Ok.ensures ∙ ap₂ (λ (b : ℕ) (n : ℕ). b - n) c.basic_of-leaving.ensures c.rows-units.ensures.value),
-  c.in-Ok.ensures.made),
+  (
+    same_exchange _ _ _ _
+        (c.saturating_sub.ensures ∙ ap (λ (n : ℕ). c.args.column - n) c.rows-units.ensures.value)
+        (c.saturating_sub-in-Ok.ensures ∙ ap₂ (λ (b : ℕ) (n : ℕ). b - n) c.basic_of-leaving.ensures c.rows-units.ensures.value),
+    c.in-Ok.ensures.made,
+  ),
 )
