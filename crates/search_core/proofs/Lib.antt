@@ -1,0 +1,10 @@
+pub mod LeastValues
+pub mod Settle
+pub mod Fairness
+pub mod Bound
+pub mod Answers
+pub mod Times
+pub mod Kept
+pub mod Finish
+pub mod Serial
+pub mod Laws

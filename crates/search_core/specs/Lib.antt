@@ -1,0 +1,4 @@
+pub mod Fair
+pub mod Judging
+pub mod Answers
+pub mod Machine
