@@ -14,3 +14,4 @@ pub mod ShownLaws
 pub mod PartSlack
 pub mod BestPairs
 pub mod Mediants
+pub mod Limits

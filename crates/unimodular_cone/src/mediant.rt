@@ -1,9 +1,8 @@
 //! The mediant of two generators, which takes the place of one of them in a child, and what of it is over its limit.
 
-ghost use Rattle.std.specs.Prelude.{◌≡◌, ◌≢◌, ◌≤◌, ◌<◌, ◌-◌, ◌+ℤ◌, ◌^◌, ℕ, pos, nat_abs, MatchOption, slice_index_or};
-ghost use Rattle.unimodular_cone.specs.Cones.{child, child_gram, FitsLimits, IsFirstOverLimit};
-ghost use Rattle.unimodular_cone.specs.Shown.{shown_gram, shown_coordinate, shown_generators, IsWithinLimits, FitsOnBothSides, IsFirstWideBelow};
-ghost use Rattle.unimodular_cone.specs.Mediant.{IsMediantOf, IsRowOf, IsFirstBelow, wide_gram};
+ghost use Rattle.std.specs.Prelude.{◌≡◌, ◌≢◌, ◌≤◌, ◌<◌, ◌-◌, ◌+ℤ◌, ◌^◌, ℕ, pos, nat_abs, MatchOption, length, slice_index_or};
+ghost use Rattle.unimodular_cone.specs.Shown.{shown_gram, shown_coordinate, IsWithinLimits, FitsOnBothSides, IsFirstWideBelow};
+ghost use Rattle.unimodular_cone.specs.Mediant.{IsMediantOf, IsRowOf, IsFirstBelow, wide_gram, FitsWith, IsFirstOverWith};
 
 use crate::bound_test::entry;
 use crate::cone_read::ConeRead;
@@ -97,4 +96,60 @@ fn gram_entry(r: u8, k: u8) -> WideEntry
         row: r.max(k) + 1,
         column: r.min(k) + 1,
     }
+}
+
+/// The first entry over its limit in the child in which the mediant takes the place of generator r.
+pub fn first_wide<C: ConeRead>(c: &C, coordinates: &[u64; 8], row: &[i128; 8], r: u8, s: u8) -> Option<WideEntry>
+    requires first { r < (C.cone c.now).size }
+    requires second { s < (C.cone c.now).size }
+    requires coordinates { IsMediantOf (C.cone c.now) r s coordinates.now }
+    requires row { IsRowOf (C.cone c.now) r s row.now }
+    ensures { MatchOption result (FitsWith (C.cone c.now) r s) (IsFirstOverWith (C.cone c.now) r s) }
+{
+    let n = c.n();
+    if let Some(p) = first_wide_coordinate(coordinates, n) {
+        return Some(WideEntry::Coordinate {
+            generator: r + 1,
+            place: p + 1,
+        });
+    }
+    match first_wide_product(row, n) {
+        Some(k) => Some(gram_entry(r, k)),
+        None => None,
+    }
+}
+
+/// The first entry over its limit in child 0 of the generators i and j, which count from 1, and if there is none in child
+/// 1, with the child's path. None where both children fit.
+pub fn children_fit<C: ConeRead>(c: &C, i: u8, j: u8) -> Option<WideAt>
+    requires first { 1 ≤ i }
+    requires order { i < j }
+    requires last { j ≤ (C.cone c.now).size }
+    requires room { length (C.cone c.now).path < 200 }
+    ensures { MatchOption result (FitsOnBothSides (C.cone c.now) (i - 1) (j - 1)) (IsFirstWideBelow (C.cone c.now) (i - 1) (j - 1)) }
+{
+    let (first, second) = (i - 1, j - 1);
+    if let Some(entry) = wide_on(c, first, second) {
+        return Some(WideAt {
+            path: c.path().child(0),
+            entry,
+        });
+    }
+    match wide_on(c, second, first) {
+        Some(entry) => Some(WideAt {
+            path: c.path().child(1),
+            entry,
+        }),
+        None => None,
+    }
+}
+
+/// The first entry over its limit in the child in which the mediant of r and s takes the place of r.
+fn wide_on<C: ConeRead>(c: &C, r: u8, s: u8) -> Option<WideEntry>
+    requires first { r < (C.cone c.now).size }
+    requires second { s < (C.cone c.now).size }
+    requires apart { r ≢ s }
+    ensures { MatchOption result (FitsWith (C.cone c.now) r s) (IsFirstOverWith (C.cone c.now) r s) }
+{
+    first_wide(c, &mediant_coordinates(c, r, s), &mediant_row(c, r, s), r, s)
 }

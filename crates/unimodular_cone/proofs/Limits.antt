@@ -1,0 +1,124 @@
+-- The first entry of a child that is over its limit stands with the mediant.
+use Rattle.std.specs.Prelude.{◌≡◌, ◌≢◌, ◌⊎◌, ℕ, zero, suc, ◌<◌, ◌≤◌, ◌+◌, ◌^◌, max, min, ℤ, pos, ◌+ℤ◌, ◌<ℤ◌, nat_abs, List, slice_index_or}
+use Rattle.std.proofs.Common.{arith, sym, ◌∙◌, ap, ap₂, refl, inl, inr, subst}
+use Rattle.std.proofs.lemmas.Int.{ints}
+use Rattle.exact_forms.proofs.Slacks.{same_or_not, replaced_here, replaced_other}
+use Rattle.unimodular_cone.specs.Cones.{child, child_gram, WideEntry, Coordinate, Gram, IsOverLimit, StandsBefore, FitsLimits}
+use Rattle.unimodular_cone.specs.Shown.{ShownCone, shown_gram, shown_coordinate, shown_generators, IsWithinLimits}
+use Rattle.unimodular_cone.specs.Mediant.{IsMediantOf, IsRowOf, HoldsFirstAt, FitsWith, IsFirstOverWith, wide_gram}
+use Rattle.unimodular_cone.proofs.Additions.{child_gram_other, child_gram_mirror}
+use Rattle.unimodular_cone.proofs.ShownLaws.{shown_gram_mirror, gram_within, coordinate_within}
+
+abbrev IsWideCoordinate : ℕ → Type 0
+IsWideCoordinate x = 2 ^ 62 < x
+
+abbrev IsWideProduct : ℤ → Type 0
+IsWideProduct z = 2 ^ 100 < nat_abs z
+
+lower_it : (x : ℕ) → pos (2 ^ 62) <ℤ pos x → 2 ^ 62 < x
+lower_it x h = omega (arith, ints)
+
+lift_it : (x : ℕ) → 2 ^ 62 < x → pos (2 ^ 62) <ℤ pos x
+lift_it x h = omega (arith, ints)
+
+not_both : (a b : ℕ) → a ≤ b → b < a → ⊥
+not_both a b h k = omega arith
+
+module _ (c : ShownCone) (w : IsWithinLimits c) (r s : ℕ) (lr : r < c.size) (ls : s < c.size) (xs : List ℕ) (row : List ℤ)
+    (hx : IsMediantOf c r s xs) (hrow : IsRowOf c r s row) where
+  -- the mediant's numbers
+  coordinate_is : (p : ℕ) → p < c.size → child (shown_generators c) r s r p ≡ pos (slice_index_or xs p 0)
+  coordinate_is p lp = ap (λ (f : ℕ → ℤ). f p) (replaced_here (shown_generators c) r (λ p. shown_generators c r p +ℤ shown_generators c s p) r refl) ∙ ap pos (sym (hx.sums p lp))
+
+  entry_is : (k : ℕ) → k < c.size → child_gram (shown_gram c) r s r k ≡ slice_index_or row k (pos 0)
+  entry_is k lk = sym (hrow.entries k lk)
+
+  mirrored_is : (k : ℕ) → k < c.size → child_gram (shown_gram c) r s k r ≡ slice_index_or row k (pos 0)
+  mirrored_is k lk = child_gram_mirror (shown_gram c) r s k r (shown_gram_mirror c) ∙ entry_is k lk
+
+  -- nothing else is over its limit
+  coordinate_fits : (k p : ℕ) → k < c.size → p < c.size → (k ≡ r → ¬ IsWideCoordinate (slice_index_or xs p 0)) → ¬ (pos (2 ^ 62) <ℤ child (shown_generators c) r s k p)
+  coordinate_fits k p lk lp h over = by (same_or_not k r)
+    where
+      by : ((k ≡ r) ⊎ (k ≢ r)) → ⊥
+      by (inl e) = h e (lower_it _ (subst (λ (z : ℤ). pos (2 ^ 62) <ℤ z) (ap (λ (a : ℕ). child (shown_generators c) r s a p) e ∙ coordinate_is p lp) over))
+      by (inr ne) = not_both _ _ (coordinate_within c k p w lk lp)
+          (lower_it _ (subst (λ (z : ℤ). pos (2 ^ 62) <ℤ z) (ap (λ (f : ℕ → ℤ). f p) (replaced_other (shown_generators c) r (λ p. shown_generators c r p +ℤ shown_generators c s p) k ne)) over))
+
+  product_fits : (a b : ℕ) → a < c.size → b < c.size → (a ≡ r → ¬ IsWideProduct (slice_index_or row b (pos 0))) → (b ≡ r → ¬ IsWideProduct (slice_index_or row a (pos 0)))
+      → ¬ (2 ^ 100 < nat_abs (child_gram (shown_gram c) r s a b))
+  product_fits a b la lb h k over = by (same_or_not a r) (same_or_not b r)
+    where
+      moved : (z : ℤ) → child_gram (shown_gram c) r s a b ≡ z → IsWideProduct z
+      moved z e = subst (λ (y : ℤ). 2 ^ 100 < nat_abs y) e over
+
+      by : ((a ≡ r) ⊎ (a ≢ r)) → ((b ≡ r) ⊎ (b ≢ r)) → ⊥
+      by (inl e) f = h e (moved _ (ap (λ (x : ℕ). child_gram (shown_gram c) r s x b) e ∙ entry_is b lb))
+      by (inr ne) (inl f) = k f (moved _ (ap (λ (x : ℕ). child_gram (shown_gram c) r s a x) f ∙ mirrored_is a la))
+      by (inr ne) (inr nf) = not_both _ _ (gram_within c a b w la lb) (moved (shown_gram c a b) (child_gram_other (shown_gram c) r s a b ne nf))
+
+  -- ---- a coordinate
+  pub first_at_coordinate : (p : ℕ) → HoldsFirstAt c.size (λ p. 2 ^ 62 < slice_index_or xs p 0) p → IsFirstOverWith c r s (Coordinate (suc r) (suc p))
+  first_at_coordinate p h = record {
+    over = (lr, h.range, subst (λ (z : ℤ). pos (2 ^ 62) <ℤ z) (sym (coordinate_is p h.range)) (lift_it _ h.holds));
+    first = first;
+  }
+    where
+      first : (other : WideEntry) → StandsBefore other (Coordinate (suc r) (suc p)) → ¬ IsOverLimit c.size (child (shown_generators c) r s) (child_gram (shown_gram c) r s) other
+      first (Coordinate zero b) before over = over
+      first (Coordinate (suc a) zero) before over = over
+      first (Coordinate (suc a) (suc b)) (inl before) (la, lb, over) = coordinate_fits a b la lb (λ e. absurd (omega arith)) over
+      first (Coordinate (suc a) (suc b)) (inr (e, before)) (la, lb, over) = coordinate_fits a b la lb (λ f. h.first b (omega arith)) over
+      first (Gram a b) before over = before
+
+  abbrev NoWideCoordinate : Type 0
+  NoWideCoordinate = (p : ℕ) → p < c.size → ¬ (2 ^ 62 < slice_index_or xs p 0)
+
+  no_coordinate : NoWideCoordinate → (a b : ℕ) → ¬ IsOverLimit c.size (child (shown_generators c) r s) (child_gram (shown_gram c) r s) (Coordinate a b)
+  no_coordinate none zero b over = over
+  no_coordinate none (suc a) zero over = over
+  no_coordinate none (suc a) (suc b) (la, lb, over) = coordinate_fits a b la lb (λ e. none b lb) over
+
+  -- ---- a Gram entry
+  pub fits_with : NoWideCoordinate → ((k : ℕ) → k < c.size → ¬ (2 ^ 100 < nat_abs (slice_index_or row k (pos 0)))) → FitsWith c r s
+  fits_with none rest (Coordinate a b) over = no_coordinate none a b over
+  fits_with none rest (Gram zero b) over = over
+  fits_with none rest (Gram (suc a) zero) over = over
+  fits_with none rest (Gram (suc a) (suc b)) (la, le, over) = let lb : b < c.size = omega arith in product_fits a b la lb (λ e. rest b lb) (λ e. rest a la) over
+
+  -- in the mediant's row, and in its column
+  in_row : NoWideCoordinate → (k : ℕ) → k ≤ r → HoldsFirstAt c.size (λ k. 2 ^ 100 < nat_abs (slice_index_or row k (pos 0))) k → IsFirstOverWith c r s (Gram (suc r) (suc k))
+  in_row none k le h = record {
+    over = (lr, le, subst (λ (z : ℤ). 2 ^ 100 < nat_abs z) (sym (entry_is k h.range)) h.holds);
+    first = first;
+  }
+    where
+      first : (other : WideEntry) → StandsBefore other (Gram (suc r) (suc k)) → ¬ IsOverLimit c.size (child (shown_generators c) r s) (child_gram (shown_gram c) r s) other
+      first (Coordinate a b) before over = no_coordinate none a b over
+      first (Gram zero b) before over = over
+      first (Gram (suc a) zero) before over = over
+      first (Gram (suc a) (suc b)) (inl before) (la, lb, over) = product_fits a b la (omega arith) (λ e. absurd (omega arith)) (λ e. absurd (omega arith)) over
+      first (Gram (suc a) (suc b)) (inr (f, before)) (la, lb, over) = product_fits a b la (omega arith) (λ e. h.first b (omega arith)) (λ e. absurd (omega arith)) over
+
+  in_column : NoWideCoordinate → (k : ℕ) → r < k → HoldsFirstAt c.size (λ k. 2 ^ 100 < nat_abs (slice_index_or row k (pos 0))) k → IsFirstOverWith c r s (Gram (suc k) (suc r))
+  in_column none k lt h = record {
+    over = (h.range, (omega arith), subst (λ (z : ℤ). 2 ^ 100 < nat_abs z) (sym (mirrored_is k h.range)) h.holds);
+    first = first;
+  }
+    where
+      first : (other : WideEntry) → StandsBefore other (Gram (suc k) (suc r)) → ¬ IsOverLimit c.size (child (shown_generators c) r s) (child_gram (shown_gram c) r s) other
+      first (Coordinate a b) before over = no_coordinate none a b over
+      first (Gram zero b) before over = over
+      first (Gram (suc a) zero) before over = over
+      first (Gram (suc a) (suc b)) (inl before) (la, lb, over) = product_fits a b la (omega arith) (λ e. h.first b (omega arith)) (λ e. h.first a (omega arith)) over
+      first (Gram (suc a) (suc b)) (inr (f, before)) (la, lb, over) = product_fits a b la (omega arith) (λ e. absurd (omega arith)) (λ e. absurd (omega arith)) over
+
+  pub first_at_product : NoWideCoordinate → (k : ℕ) → HoldsFirstAt c.size (λ k. 2 ^ 100 < nat_abs (slice_index_or row k (pos 0))) k → IsFirstOverWith c r s (wide_gram r k)
+  first_at_product none k h = by (order k r)
+    where
+      order : (k r : ℕ) → (k ≤ r) ⊎ (r < k)
+      order k r = grind arith
+
+      by : ((k ≤ r) ⊎ (r < k)) → IsFirstOverWith c r s (wide_gram r k)
+      by (inl le) = let a : max r k + 1 ≡ suc r = omega arith in let b : min r k + 1 ≡ suc k = omega arith in subst (λ (e : WideEntry). IsFirstOverWith c r s e) (ap₂ Gram (sym a) (sym b)) (in_row none k le h)
+      by (inr lt) = let a : max r k + 1 ≡ suc k = omega arith in let b : min r k + 1 ≡ suc r = omega arith in subst (λ (e : WideEntry). IsFirstOverWith c r s e) (ap₂ Gram (sym a) (sym b)) (in_column none k lt h)
