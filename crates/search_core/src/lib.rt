@@ -3,11 +3,13 @@
 
 mod answer;
 mod fate;
-// mod judging;
+mod judging;
 mod searcher;
+mod words;
 
 pub use answer::{Least, Sign};
 pub use fate::{Fate, Judged};
-// pub use judging::{code, judge, start_word};
+pub use judging::judge;
 pub use searcher::Searcher;
 pub use unimodular_cone::Mode;
+pub use words::{code, start_word};
