@@ -1,5 +1,5 @@
 -- The scan of the pair rule.
-use Rattle.std.specs.Prelude.{◌≡◌, ℕ, zero, suc, ◌<◌, ◌≤◌, ◌+◌, ◌-◌, ℤ, pos, ◌≤ℤ◌, ◌<ℤ◌, int_lt, FitsSigned, ltb, cond, Bool, true, false, Option, Some, None}
+use Rattle.std.specs.Prelude.{◌≡◌, ℕ, zero, suc, ◌<◌, ◌≤◌, ◌+◌, ℤ, pos, ◌≤ℤ◌, ◌<ℤ◌, int_lt, FitsSigned, ltb, cond, Bool, true, false, Option, Some, None}
 use Rattle.std.specs.Int.{w128}
 use Rattle.std.proofs.Common.{arith, to_z, of_z, sym, ◌∙◌, ap, ap₂, refl, subst}
 use Rattle.std.proofs.lemmas.Int.{ints, to_z-of_z}
@@ -7,7 +7,7 @@ use Rattle.std.proofs.lemmas.Bool.Decides.{nat_tests}
 use Rattle.unimodular_cone.specs.declared.pair_rule.Best.{Best}
 use Rattle.unimodular_cone.specs.BestPair.{best_pair, IsBestOf, better_best}
 use Rattle.unimodular_cone.specs.Cones.{Matrix, better, best_in_row, best_in_rows, pair_of, IsPair}
-use Rattle.unimodular_cone.specs.Shown.{ShownCone, shown_gram, NamesPair}
+use Rattle.unimodular_cone.specs.Shown.{ShownCone, shown_gram}
 use Rattle.unimodular_cone.proofs.Pairs.{pair_of_some, pair_of_none}
 
 less_true : (x y : ℤ) → x <ℤ y → int_lt x y ≡ true

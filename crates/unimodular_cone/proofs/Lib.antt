@@ -15,3 +15,7 @@ pub mod PartSlack
 pub mod BestPairs
 pub mod Mediants
 pub mod Limits
+pub mod Fields
+pub mod RowSet
+pub mod LimitsSame
+pub mod Replaced

@@ -3,8 +3,8 @@ use Rattle.std.specs.Prelude.{◌≡◌, ◌≢◌, ◌⊎◌, ℕ, zero, suc, �
 use Rattle.std.proofs.Common.{arith, sym, ◌∙◌, ap, ap₂, refl, inl, inr, subst}
 use Rattle.std.proofs.lemmas.Int.{ints}
 use Rattle.exact_forms.proofs.Slacks.{same_or_not, replaced_here, replaced_other}
-use Rattle.unimodular_cone.specs.Cones.{child, child_gram, WideEntry, Coordinate, Gram, IsOverLimit, StandsBefore, FitsLimits}
-use Rattle.unimodular_cone.specs.Shown.{ShownCone, shown_gram, shown_coordinate, shown_generators, IsWithinLimits}
+use Rattle.unimodular_cone.specs.Cones.{child, child_gram, WideEntry, Coordinate, Gram, IsOverLimit, StandsBefore}
+use Rattle.unimodular_cone.specs.Shown.{ShownCone, shown_gram, shown_generators, IsWithinLimits}
 use Rattle.unimodular_cone.specs.Mediant.{IsMediantOf, IsRowOf, HoldsFirstAt, FitsWith, IsFirstOverWith, wide_gram}
 use Rattle.unimodular_cone.proofs.Additions.{child_gram_other, child_gram_mirror}
 use Rattle.unimodular_cone.proofs.ShownLaws.{shown_gram_mirror, gram_within, coordinate_within}

@@ -1,11 +1,11 @@
 -- A slack as a loop over the columns makes it.
-use Rattle.std.specs.Prelude.{◌≡◌, ◌≢◌, ℕ, zero, suc, ◌<◌, ◌≤◌, ◌+◌, ◌*◌, ◌^◌, ℤ, pos, negsuc, ◌+ℤ◌, ◌-ℤ◌, ◌≤ℤ◌, ◌<ℤ◌, neg_ℤ, nat_abs, int_lt, true, false, FitsSigned, cond, eqb, ◌⊎◌}
+use Rattle.std.specs.Prelude.{◌≡◌, ◌≢◌, ℕ, ◌<◌, ◌≤◌, ◌+◌, ◌*◌, ◌^◌, ℤ, pos, negsuc, ◌+ℤ◌, ◌≤ℤ◌, ◌<ℤ◌, neg_ℤ, nat_abs, int_lt, true, false, FitsSigned, cond, eqb, ◌⊎◌}
 use Rattle.std.specs.Int.{w128}
 use Rattle.std.proofs.Common.{arith, to_z, of_z, sym, ◌∙◌, ap, refl, inl, inr, subst}
 use Rattle.std.proofs.lemmas.Int.{ints, to_z-of_z}
 use Rattle.commutative_ring.proofs.Expand.{linear}
 use Rattle.exact_forms.specs.Sums.{sum_to}
-use Rattle.exact_forms.specs.Slacks.{shortfall, slack, replaced}
+use Rattle.exact_forms.specs.Slacks.{shortfall, slack}
 use Rattle.exact_forms.proofs.Sums.{sum_to-zero, sum_to_more}
 use Rattle.exact_forms.proofs.Slacks.{same_or_not, replaced_here, replaced_other}
 

@@ -1,10 +1,10 @@
 -- What the limits say of a shown cone, and its symmetry.
-use Rattle.std.specs.Prelude.{◌≡◌, ℕ, zero, suc, ◌<◌, ◌≤◌, ◌^◌, ℤ, pos, ◌<ℤ◌, nat_abs, nat_lt, cond, Bool, true, false, ◌⊎◌}
-use Rattle.std.proofs.Common.{arith, sym, ap, refl, inl, inr, subst}
+use Rattle.std.specs.Prelude.{◌≡◌, ℕ, suc, ◌<◌, ◌≤◌, ◌^◌, pos, ◌<ℤ◌, nat_abs, nat_lt, true, false, ◌⊎◌}
+use Rattle.std.proofs.Common.{arith, refl, inl, inr}
 use Rattle.std.proofs.lemmas.Int.{ints}
 use Rattle.std.proofs.lemmas.Bool.Decides.{nat_tests}
-use Rattle.exact_forms.specs.Triangles.{entry_in, triangle}
-use Rattle.unimodular_cone.specs.Cones.{WideEntry, Coordinate, Gram}
+use Rattle.exact_forms.specs.Triangles.{entry_in}
+use Rattle.unimodular_cone.specs.Cones.{Coordinate, Gram}
 use Rattle.unimodular_cone.specs.Shown.{ShownCone, shown_gram, shown_coordinate, IsWithinLimits}
 
 order : (i j : ℕ) → (i < j) ⊎ ((i ≡ j) ⊎ (j < i))

@@ -4,6 +4,8 @@ pub mod Tree
 pub mod Answer
 pub mod PackedDigits
 pub mod BestPair
+pub mod ConeFields
+pub mod Replacement
 pub mod Mediant
 pub mod Shown
 pub mod Theorems

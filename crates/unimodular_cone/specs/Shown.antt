@@ -16,7 +16,7 @@
 --     NamesPair c pair            the pair of c, from 1; None where no entry beside the diagonal is negative
 --
 -- Generators, places, rows and columns count from 0.
-use Rattle.std.specs.Prelude.{ℕ, suc, ℤ, pos, ◌≤ℤ◌, ◌<◌, ◌≤◌, ◌-◌, ◌≡◌, ◌⊎◌, Bool, true, false, Option, Some, None, List, [], ◌∷◌, ◌++◌, length, slice_index_or}
+use Rattle.std.specs.Prelude.{ℕ, ℤ, pos, ◌≤ℤ◌, ◌<◌, ◌≤◌, ◌-◌, ◌≡◌, ◌⊎◌, Bool, true, false, Option, Some, None, List, [], ◌∷◌, ◌++◌, length, slice_index_or}
 use Rattle.exact_forms.specs.Triangles.{entry_in}
 use Rattle.unimodular_cone.specs.declared.refusal.WideAt.{WideAt}
 use Rattle.unimodular_cone.specs.declared.refusal.ConeFail.{ConeFail}

@@ -3,6 +3,7 @@
 #![tactic(auto)]
 
 mod bound_test;
+mod cone;
 mod cone_read;
 mod law;
 mod mediant;
@@ -12,6 +13,8 @@ mod path;
 mod refusal;
 
 pub use bound_test::{closed, least_value};
+pub use cone::{Cone, child};
+pub use mediant::children_fit;
 pub use cone_read::ConeRead;
 pub use law::{
     at_most_one_answer, at_most_one_final_bound, at_most_one_first_low, at_most_one_first_open,

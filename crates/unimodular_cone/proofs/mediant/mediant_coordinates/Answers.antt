@@ -1,4 +1,4 @@
-use Rattle.std.specs.Prelude.{◌≡◌, ◌<◌, ◌≤◌, ◌^◌, ◌+◌, ℕ, length}
+use Rattle.std.specs.Prelude.{◌<◌, ◌≤◌, ◌^◌, ◌+◌, ℕ}
 use Rattle.std.proofs.Common.{arith, ap₂, ◌∙◌, length-set}
 use Rattle.unimodular_cone.specs.Shown.{shown_coordinate}
 use Rattle.unimodular_cone.proofs.ShownLaws.{coordinate_within}

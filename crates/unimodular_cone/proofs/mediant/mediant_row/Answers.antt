@@ -1,5 +1,5 @@
-use Rattle.std.specs.Prelude.{◌≡◌, ◌<◌, ◌≤◌, ◌+ℤ◌, ℕ, ℤ, pos, length, slice_index_or}
-use Rattle.std.proofs.Common.{arith, rules, ap, ◌∙◌, subst, sym}
+use Rattle.std.specs.Prelude.{◌≡◌, ◌+ℤ◌, pos, length, slice_index_or}
+use Rattle.std.proofs.Common.{arith, rules}
 use Rattle.unimodular_cone.specs.Shown.{shown_gram}
 use Rattle.unimodular_cone.proofs.Mediants.{read_fits, read_sum, product_small, row_is, AreProducts, sized}
 use Rattle.unimodular_cone.proofs.mediant.mediant_row.Goals as goal

@@ -1,4 +1,4 @@
-use Rattle.std.specs.Prelude.{◌≡◌, ◌<◌, ◌≤◌, ◌^◌, ◌+ℤ◌, ℕ, pos, nat_abs, length}
+use Rattle.std.specs.Prelude.{◌<◌, ◌+ℤ◌, ℕ, pos}
 use Rattle.std.proofs.Common.{arith, ◌∙◌, length-set}
 use Rattle.unimodular_cone.specs.Shown.{shown_gram}
 use Rattle.unimodular_cone.proofs.ShownLaws.{gram_within}

@@ -1,7 +1,7 @@
-use Rattle.std.specs.Prelude.{◌≡◌, ◌<◌, ◌≤◌, ◌+◌, ◌^◌, ℕ, nat_abs, Option, ℤ}
+use Rattle.std.specs.Prelude.{◌≡◌, ◌≤◌, ◌+◌, ◌^◌, ℕ, nat_abs, Option}
 use Rattle.std.specs.Int.{w128}
 use Rattle.std.proofs.Common.{arith, sym, ◌∙◌, ap, to_z, of_z}
-use Rattle.unimodular_cone.specs.BestPair.{best_pair, IsBestOf}
+use Rattle.unimodular_cone.specs.BestPair.{best_pair}
 use Rattle.unimodular_cone.specs.Cones.{better}
 use Rattle.unimodular_cone.specs.Shown.{shown_gram}
 use Rattle.unimodular_cone.proofs.ShownLaws.{gram_within}

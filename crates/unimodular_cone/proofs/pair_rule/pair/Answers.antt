@@ -1,7 +1,5 @@
-use Rattle.std.specs.Prelude.{◌≡◌, ◌<◌, ◌≤◌, ◌-◌, ◌+◌, ℕ, FitsSigned}
-use Rattle.std.specs.Int.{w128}
-use Rattle.std.proofs.Common.{arith, sym, ◌∙◌, ap, rules}
-use Rattle.unimodular_cone.specs.BestPair.{best_pair}
+use Rattle.std.specs.Prelude.{◌≡◌, ◌-◌, ◌+◌}
+use Rattle.std.proofs.Common.{arith, ◌∙◌, ap, rules}
 use Rattle.unimodular_cone.specs.Cones.{IsPair, best_in_rows}
 use Rattle.unimodular_cone.specs.Shown.{shown_gram}
 use Rattle.unimodular_cone.proofs.BestPairs.{best_is_pair, best_is_none, tested_negative, tested_not_negative}

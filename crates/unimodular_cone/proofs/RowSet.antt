@@ -1,0 +1,78 @@
+-- A row and a column of a lower triangle, set one place after the other.
+use Rattle.std.specs.Prelude.{◌≡◌, ◌≢◌, ◌⊎◌, ℕ, ◌<◌, ◌≤◌, ◌+◌, max, min, ℤ, pos, List, length, slice_index_or, slice_set}
+use Rattle.std.proofs.Common.{arith, sym, ◌∙◌, ap, ap₂, refl, inl, inr, get_or-set_other, get_or-set_same, length-set}
+use Rattle.exact_forms.specs.Triangles.{triangle}
+use Rattle.exact_forms.proofs.Triangles.{place_decides}
+use Rattle.unimodular_cone.specs.Replacement.{IsPartRowSet}
+use Rattle.unimodular_cone.proofs.Fields.{place_below}
+
+pub row_set_start : (r : ℕ) (old row : List ℤ) → IsPartRowSet 0 r old row old
+row_set_start r old row = record {
+  room = refl;
+  in_row = λ b le l. absurd (omega arith);
+  in_column = λ a le l. absurd (omega arith);
+  elsewhere = λ a b le na nb. refl;
+}
+
+-- another place than that of r and k
+other_place : (r k a b : ℕ) → b ≤ a → ((a ≢ max r k) ⊎ (b ≢ min r k)) → triangle a + b ≢ triangle (max r k) + min r k
+other_place r k a b le ne e = by ne
+  where
+    same : (a ≡ max r k) × (b ≡ min r k)
+    same = place_decides a b (max r k) (min r k) le (omega arith) e
+
+    by : ((a ≢ max r k) ⊎ (b ≢ min r k)) → ⊥
+    by (inl h) = h same.0
+    by (inr h) = h same.1
+
+pub row_set_more : (r k at : ℕ) (old row new : List ℤ) (v : ℤ) → IsPartRowSet k r old row new → length old ≡ 36 → r < 8 → k < 8
+    → at ≡ triangle (max r k) + min r k → v ≡ slice_index_or row k (pos 0) → IsPartRowSet (k + 1) r old row (slice_set new at v)
+row_set_more r k at old row new v h size lr lk place is = record {
+  room = length-set new at v ∙ h.room;
+  in_row = λ b le l. row_at b le (last b l);
+  in_column = λ a le l. column_at a le (last a l);
+  elsewhere = λ a b le na nb. kept a b le (apart a b le na nb) (h.elsewhere a b le na nb);
+}
+  where
+    below : triangle (max r k) + min r k < 36
+    below = place_below (max r k) (min r k) (omega arith) (omega arith)
+
+    last : (b : ℕ) → b < k + 1 → (b < k) ⊎ (b ≡ k)
+    last b l = grind arith
+
+    kept : (a b : ℕ) {z : ℤ} → b ≤ a → ((a ≢ max r k) ⊎ (b ≢ min r k)) → slice_index_or new (triangle a + b) (pos 0) ≡ z → slice_index_or (slice_set new at v) (triangle a + b) (pos 0) ≡ z
+    kept a b le ne e = get_or-set_other new at (triangle a + b) v (pos 0) (λ f. other_place r k a b le ne (f ∙ place)) ∙ e
+
+    here : (a b : ℕ) → a ≡ max r k → b ≡ min r k → slice_index_or (slice_set new at v) (triangle a + b) (pos 0) ≡ slice_index_or row k (pos 0)
+    here a b ea eb =
+        let e : triangle a + b ≡ at = ap₂ (λ (x : ℕ) (y : ℕ). triangle x + y) ea eb ∙ sym place in
+        let room : at < length new = omega (arith, h.room, place, below) in
+        ap (λ (w : ℕ). slice_index_or (slice_set new at v) w (pos 0)) e ∙ get_or-set_same new at v (pos 0) room ∙ is
+
+    row_at : (b : ℕ) → b ≤ r → ((b < k) ⊎ (b ≡ k)) → slice_index_or (slice_set new at v) (triangle r + b) (pos 0) ≡ slice_index_or row b (pos 0)
+    row_at b le (inl lt) = kept r b le (differs b r k le lt) (h.in_row b le lt)
+      where
+        differs : (b r k : ℕ) → b ≤ r → b < k → (r ≢ max r k) ⊎ (b ≢ min r k)
+        differs b r k le lt = side (before_or_at b r le)
+          where
+            before_or_at : (b r : ℕ) → b ≤ r → (b < r) ⊎ (b ≡ r)
+            before_or_at b r le = grind arith
+
+            side : ((b < r) ⊎ (b ≡ r)) → (r ≢ max r k) ⊎ (b ≢ min r k)
+            side (inl l) = inr (λ e. absurd (omega arith))
+            side (inr e) = inl (λ f. absurd (omega arith))
+    row_at b le (inr e) = here r b (omega arith) (omega arith) ∙ ap (λ (w : ℕ). slice_index_or row w (pos 0)) (sym e)
+
+    column_at : (a : ℕ) → r ≤ a → ((a < k) ⊎ (a ≡ k)) → slice_index_or (slice_set new at v) (triangle a + r) (pos 0) ≡ slice_index_or row a (pos 0)
+    column_at a le (inl lt) = kept a r le (inl (λ e. absurd (omega arith))) (h.in_column a le lt)
+    column_at a le (inr e) = here a r (omega arith) (omega arith) ∙ ap (λ (w : ℕ). slice_index_or row w (pos 0)) (sym e)
+
+    apart : (a b : ℕ) → b ≤ a → a ≢ r → b ≢ r → (a ≢ max r k) ⊎ (b ≢ min r k)
+    apart a b le na nb = by (side r k)
+      where
+        side : (r k : ℕ) → (k ≤ r) ⊎ (r < k)
+        side r k = grind arith
+
+        by : ((k ≤ r) ⊎ (r < k)) → (a ≢ max r k) ⊎ (b ≢ min r k)
+        by (inl le) = inl (λ e. na (omega arith))
+        by (inr lt) = inr (λ e. nb (omega arith))

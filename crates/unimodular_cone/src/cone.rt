@@ -1,0 +1,129 @@
+//! Cones that keep their numbers inline.
+
+ghost use Rattle.std.specs.Prelude.{◌≡◌, ◌≢◌, ◌≤◌, ◌<◌, ◌-◌, ◌+◌, length, nat_eq, IfOk, IfErr};
+ghost use Rattle.exact_forms.specs.Triangles.{triangle};
+ghost use Rattle.unimodular_cone.specs.Shown.{IsWithinLimits, IsChild, IsFirstWide, IsWideWhere};
+ghost use Rattle.unimodular_cone.specs.Replacement.{IsChildWith, IsFirstWideWith, IsRowSet};
+
+use std::marker::Model;
+
+use crate::cone_read::ConeRead;
+use crate::mediant::{first_wide, mediant_coordinates, mediant_row};
+use crate::path::Path;
+use crate::refusal::{ConeFail, WideAt};
+
+/// A cone: its path, n generators of n coordinates each, and their Gram matrix, all within their limits.
+///
+/// Its numbers are kept inline: the lower triangle of the Gram matrix row by row, and a row for each generator.
+#[derive(Drop)]
+pub struct Cone {
+    n: u8,
+    path: Path,
+    gram: [i128; 36],
+    generators: [[u64; 8]; 8],
+}
+
+impl Model for Cone {
+    ghost use Rattle.unimodular_cone.specs.Shown.{ShownCone};
+
+    ghost Value = { ShownCone };
+
+    ghost use Rattle.unimodular_cone.specs.ConeFields.{shown_of, IsCone};
+
+    ghost view = { shown_of };
+
+    ghost invariant = { IsCone };
+}
+
+impl ConeRead for Cone {
+    ghost cone = { λ c. c };
+
+    fn n(&self) -> u8 {
+        self.n
+    }
+
+    fn path(&self) -> Path {
+        self.path
+    }
+
+    fn gram(&self, row: u8, column: u8) -> i128 {
+        let gram = &self.gram;
+        gram[place_of(row.max(column) - 1, row.min(column) - 1)]
+    }
+
+    fn coordinate(&self, generator: u8, place: u8) -> u64 {
+        self.generators[usize::from(generator - 1)][usize::from(place - 1)]
+    }
+}
+
+/// The child of a cone on a side of the generators i and j, which count from 1: child 0 has v_i + v_j in the place of
+/// v_i, and child 1 has it in the place of v_j. Refused is exactly a child with an entry over its limit, with the first such
+/// entry.
+///
+/// It is made by additions from its parent's numbers, and takes no memory.
+pub fn child(c: &Cone, i: u8, j: u8, side: u8) -> Result<Cone, ConeFail>
+    requires first { 1 ≤ i }
+    requires order { i < j }
+    requires last { j ≤ c.now.size }
+    requires digit { side < 2 }
+    requires room { length c.now.path < 200 }
+    ensures made { IfOk result (IsChild c.now (i - 1) (j - 1) (nat_eq side 1)) }
+    ensures fits { IfOk result IsWithinLimits }
+    ensures wide { IfErr result (IsWideWhere (IsFirstWide c.now (i - 1) (j - 1) (nat_eq side 1))) }
+{
+    let path = c.path.child(side);
+    if side == 0 {
+        child_with(c, i - 1, j - 1, path)
+    } else {
+        child_with(c, j - 1, i - 1, path)
+    }
+}
+
+/// The child in which the mediant of r and s takes the place of r.
+fn child_with(c: &Cone, r: u8, s: u8, path: Path) -> Result<Cone, ConeFail>
+    requires first { r < c.now.size }
+    requires second { s < c.now.size }
+    requires apart { r ≢ s }
+    requires short { length path ≤ 200 }
+    ensures made { IfOk result (IsChildWith c.now r s path) }
+    ensures fits { IfOk result IsWithinLimits }
+    ensures wide { IfErr result (IsWideWhere (IsFirstWideWith c.now r s path)) }
+{
+    let coordinates = mediant_coordinates(c, r, s);
+    let row = mediant_row(c, r, s);
+    if let Some(entry) = first_wide(c, &coordinates, &row, r, s) {
+        return Err(ConeFail::Wide(WideAt { path, entry }));
+    }
+    let mut generators = c.generators;
+    generators[usize::from(r)] = coordinates;
+    let mut gram = c.gram;
+    set_row(&mut gram, &row, r, c.n);
+    Ok(Cone {
+        n: c.n,
+        path,
+        gram,
+        generators,
+    })
+}
+
+/// Writes row and column r of a lower triangle of n rows, counted from 0.
+fn set_row(gram: &mut [i128; 36], row: &[i128; 8], r: u8, n: u8)
+    requires range { r < n }
+    requires few { n ≤ 8 }
+    ensures { IsRowSet n r gram.old row.now gram.new }
+{
+    for k in 0..n {
+        gram[place_of(r.max(k), r.min(k))] = row[usize::from(k)];
+    }
+}
+
+/// Where the entry at a row and a column, which count from 0, stands in the lower triangle.
+fn place_of(row: u8, column: u8) -> usize
+    requires below { column ≤ row }
+    requires small { row < 8 }
+    ensures place { result ≡ triangle row + column }
+    ensures inside { result < 36 }
+{
+    let row = usize::from(row);
+    row * (row + 1) / 2 + usize::from(column)
+}
