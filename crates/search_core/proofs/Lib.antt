@@ -8,3 +8,4 @@ pub mod Kept
 pub mod Finish
 pub mod Serial
 pub mod Laws
+pub mod ShownFates

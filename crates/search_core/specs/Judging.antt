@@ -4,7 +4,6 @@
 --     shown_code m c              the depth if a generator is low, else 256 (Sign), or 256 and the least value (Least)
 --     IsLowShown, IsFirstLowShown some generator is low; k is the first that is, from 0
 --     IsClosedShown m c word      each slack is at least the word's bound
---     IsEndingShown c word f      f says that a child does not fit, or that the cone is split at its pair
 --     IsShownFate m c d word f    f is the fate of c, with limit d, under the word
 use Rattle.std.specs.Prelude.{ℕ, suc, ℤ, pos, ◌≤ℤ◌, ◌^◌, ◌<◌, ◌≤◌, ◌-◌, ◌≡◌, ◌≢◌, ◌⊎◌, length, Some}
 use Rattle.exact_forms.specs.Slacks.{IsClosed}
@@ -37,23 +36,16 @@ pub record IsUndecidedShown (m : Mode) (c : ShownCone) (word : ℕ) : Type 0 whe
   pub not_low : ¬ IsLowShown m c
   pub not_closed : ¬ IsClosedShown m c word
 
--- a child does not fit, or the cone is split at its pair, counted from 1
-abbrev pub IsEndingShown : ShownCone → ℕ → Fate → Type 0
-IsEndingShown c word (Wide w at) = (w ≡ word) × ((i : ℕ) × (j : ℕ) × NamesPair c (Some (i, j)) × IsFirstWideBelow c (i - 1) (j - 1) at)
-IsEndingShown c word (Split i j w) = (w ≡ word) × NamesPair c (Some (i, j)) × FitsOnBothSides c (i - 1) (j - 1)
-IsEndingShown c word (Closed w) = ⊥
-IsEndingShown c word (Low which) = ⊥
-IsEndingShown c word (Dropped w) = ⊥
-IsEndingShown c word (AtLimit w) = ⊥
-
 abbrev pub IsShownFate : Mode → ShownCone → ℕ → ℕ → Fate → Type 0
 IsShownFate m c d word (Closed w) = (w ≡ word) × (word < 256 → length c.path ≤ word) × (¬ IsLowShown m c) × IsClosedShown m c word
 IsShownFate m c d word (Low which) = (word < 256 → length c.path ≤ word) × ((k : ℕ) × (which ≡ suc k) × IsFirstLowShown m c k)
 IsShownFate m c d word (Dropped w) = (w ≡ word) × (word < 256)
     × ((word < length c.path) ⊎ ((word ≡ length c.path) × (¬ IsLowShown m c) × (¬ IsClosedShown m c word)))
 IsShownFate m c d word (AtLimit w) = (w ≡ word) × IsUndecidedShown m c word × (length c.path ≡ d)
-IsShownFate m c d word (Wide w at) = IsUndecidedShown m c word × (length c.path ≢ d) × IsEndingShown c word (Wide w at)
-IsShownFate m c d word (Split i j w) = IsUndecidedShown m c word × (length c.path ≢ d) × IsEndingShown c word (Split i j w)
+IsShownFate m c d word (Wide w at) = (w ≡ word) × IsUndecidedShown m c word × (length c.path ≢ d)
+    × ((i : ℕ) × (j : ℕ) × NamesPair c (Some (i, j)) × IsFirstWideBelow c (i - 1) (j - 1) at)
+IsShownFate m c d word (Split i j w) = (w ≡ word) × IsUndecidedShown m c word × (length c.path ≢ d)
+    × NamesPair c (Some (i, j)) × FitsOnBothSides c (i - 1) (j - 1)
 
 -- a least diagonal entry of at most 2^63 - 1, where the mode is Least
 abbrev pub IsStartable : Mode → ℤ → Type 0

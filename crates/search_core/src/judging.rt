@@ -1,7 +1,8 @@
 //! The fate of a cone under a word.
 
 ghost use Rattle.std.specs.Prelude.{◌≡◌, ◌≤◌, ◌<◌, ◌-◌, ℕ, suc, length, Some, MatchOption};
-ghost use Rattle.search_core.specs.Judging.{shown_code, IsLowShown, IsFirstLowShown, IsClosedShown, IsUndecidedShown, IsShownFate, IsEndingShown};
+ghost use Rattle.unimodular_cone.specs.Shown.{IsWithinLimits};
+ghost use Rattle.search_core.specs.Judging.{shown_code, IsLowShown, IsFirstLowShown, IsClosedShown, IsUndecidedShown, IsShownFate};
 
 use crate::fate::Fate;
 use crate::words::{bound_under, is_low_value};
@@ -9,23 +10,30 @@ use unimodular_cone::{ConeRead, Mode, children_fit, closed, pair};
 
 /// The first low generator of a cone, counted from 1.
 fn first_low<C: ConeRead>(mode: Mode, c: &C) -> Option<u8>
-    ensures { MatchOption result (¬ IsLowShown mode (C.cone c.now)) (λ which. (k : ℕ) × (which ≡ suc k) × IsFirstLowShown mode (C.cone c.now) k) }
+    ensures fits { IsWithinLimits (C.cone c.now) }
+    ensures low { MatchOption result (¬ IsLowShown mode (C.cone c.now)) (λ which. (k : ℕ) × (which ≡ suc k) × IsFirstLowShown mode (C.cone c.now) k) }
 {
-    for k in 1..=c.n() {
-        if is_low_value(mode, c.gram(k, k)) {
-            return Some(k);
+    let n = c.n();
+    for k in 0..n {
+        if is_low_value(mode, c.gram(k + 1, k + 1)) {
+            return Some(k + 1);
         }
     }
     None
 }
 
-/// The fate of a cone that is neither low nor closed and above its limit: a child does not fit, or it is split.
-fn split_or_wide<C: ConeRead>(mode: Mode, c: &C, word: u64) -> Fate
+/// The fate of a cone that is neither low nor closed nor dropped: it is at the limit, a child does not fit, or it is split.
+fn undecided_fate<C: ConeRead>(mode: Mode, c: &C, limit: u8, word: u64) -> Fate
+    requires fits { IsWithinLimits (C.cone c.now) }
     requires below_code { word ≤ shown_code mode (C.cone c.now) }
-    requires short { length (C.cone c.now).path < 200 }
+    requires limited { limit ≤ 200 }
+    requires within { length (C.cone c.now).path ≤ limit }
     requires undecided { IsUndecidedShown mode (C.cone c.now) word }
-    ensures { IsEndingShown (C.cone c.now) word result }
+    ensures { IsShownFate mode (C.cone c.now) limit word result }
 {
+    if c.path().len() == limit {
+        return Fate::AtLimit { word };
+    }
     let Some((i, j)) = pair(c) else {
         unreachable!()
     };
@@ -57,8 +65,5 @@ pub fn judge<C: ConeRead>(mode: Mode, c: &C, limit: u8, word: u64) -> Fate
     if word == u64::from(depth) {
         return Fate::Dropped { word };
     }
-    if depth == limit {
-        return Fate::AtLimit { word };
-    }
-    split_or_wide(mode, c, word)
+    undecided_fate(mode, c, limit, word)
 }
