@@ -12,13 +12,13 @@ use Rattle.unimodular_cone.specs.declared.Mode.{Mode}
 use Rattle.unimodular_cone.specs.declared.Mode.TheVariants.{Sign, Least}
 use Rattle.unimodular_cone.specs.Tree.{CanSplit, IsLowValue, IsLow, IsFinalBound, IsOpen, IsFirstOverBelow}
 use Rattle.unimodular_cone.specs.Answer.{coordinate, Attains, IsIncreasing, SearchAnswer, Found, Copositive, Depth, IsSearchAnswer, IsClosedAnswer, IsClear, IsVector, IsOpenAnswer, IsNarrow}
-use Rattle.search_core.specs.Fair.{Fate, Judged, bound_under, IsClosedUnder, IsSplit, HasPath, IsFair, code, code_of, start_word, least_value}
+use Rattle.search_core.specs.Fair.{Fate, Judged, bound_under, IsClosedUnder, IsSplit, HasPath, IsFair, code, code_of, start_word, least_value, IsLowFate}
 use Rattle.unimodular_cone.proofs.Covers.{value_same, closed_attains, IsNonzeroBelow}
 use Rattle.unimodular_cone.proofs.Bounded.{closed_or_not}
 use Rattle.unimodular_cone.proofs.Generators.{proper}
 use Rattle.search_core.proofs.LeastValues.{least_value_attained, start_is_large}
 use Rattle.unimodular_cone.proofs.Tree.{above_child, none_above_root, HasChildren, StopsAt, descend_from_root}
-use Rattle.search_core.proofs.Settle.{IsLowFate, IsLimitFate, split_or_limit, split_can}
+use Rattle.search_core.proofs.Settle.{IsLimitFate, split_or_limit, split_can}
 use Rattle.search_core.proofs.Fairness.{judged_in_tree, none_low, low_is_judged, limit_is_open, settles_low, settles_open, settles_none_open}
 use Rattle.search_core.proofs.Bound.{final_bound_Least}
 

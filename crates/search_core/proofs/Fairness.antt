@@ -8,9 +8,9 @@ use Rattle.unimodular_cone.specs.Paths.{Path, IsAbove, IsNoLater, IsNoDeeper}
 use Rattle.unimodular_cone.specs.Cones.{Matrix, cone_at}
 use Rattle.unimodular_cone.specs.declared.Mode.{Mode}
 use Rattle.unimodular_cone.specs.Tree.{IsInTree, IsLow, IsFirstLowAt, IsFirstLow, HasWideChild, IsOpen, IsFirstOpen, IsFirstOverBelow}
-use Rattle.search_core.specs.Fair.{Fate, AtLimit, Judged, word_of, bound_under, IsClosedUnder, IsFate, IsSplit, HasPath, IsDue, IsFair}
+use Rattle.search_core.specs.Fair.{Fate, AtLimit, Judged, word_of, bound_under, IsClosedUnder, IsFate, IsSplit, HasPath, IsDue, IsFair, IsLowFate}
 use Rattle.unimodular_cone.proofs.Tree.{length_child, in_tree_root, in_tree_child}
-use Rattle.search_core.proofs.Settle.{split_not_wide, split_above_low, low_itself, IsLowFate, word_of_low, split_above_open, IsLimitFate, split_or_limit, split_can}
+use Rattle.search_core.proofs.Settle.{split_not_wide, split_above_low, low_itself, word_of_low, split_above_open, IsLimitFate, split_or_limit, split_can}
 
 pub append_nil : (p : Path) → p ++ [] ≡ p
 append_nil [] = refl

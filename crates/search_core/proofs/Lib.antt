@@ -9,3 +9,4 @@ pub mod Finish
 pub mod Serial
 pub mod Laws
 pub mod ShownFates
+pub mod Firsts

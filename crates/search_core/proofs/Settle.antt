@@ -11,7 +11,7 @@ use Rattle.unimodular_cone.specs.Cones.{Matrix, Generators, gram, child, cone_at
 use Rattle.unimodular_cone.specs.declared.Mode.{Mode}
 use Rattle.unimodular_cone.specs.declared.Mode.TheVariants.{Sign, Least}
 use Rattle.unimodular_cone.specs.Tree.{CanSplit, IsInTree, IsLowValue, IsLow, IsFirstOverBelow}
-use Rattle.search_core.specs.Fair.{Fate, Closed, Split, Dropped, AtLimit, word_of, bound_under, IsClosedUnder, IsFate, IsSplit}
+use Rattle.search_core.specs.Fair.{Fate, Closed, Split, Dropped, AtLimit, word_of, bound_under, IsClosedUnder, IsFate, IsSplit, IsLowFate}
 use Rattle.unimodular_cone.proofs.Pairs.{some_pair}
 use Rattle.unimodular_cone.proofs.Covers.{generator_lies, closed_at_least, closed_nonnegative, IsNonzeroBelow}
 use Rattle.unimodular_cone.proofs.Bounded.{closed_or_not}
@@ -75,14 +75,6 @@ split_above_low m n q d final a p (AtLimit w) s fate le above t low short = absu
 split_above_low m n q d final a p (Fate.Wide w at) s fate le above t low short = absurd (split_not_wide n q a at.path at.entry (t.above a above) fate.3)
 
 -- and the path's own judgement is Low
-abbrev pub IsLowFate : Fate → Type 0
-IsLowFate (Closed w) = ⊥
-IsLowFate (Split i j w) = ⊥
-IsLowFate (Fate.Low k) = Unit {0}
-IsLowFate (Dropped w) = ⊥
-IsLowFate (AtLimit w) = ⊥
-IsLowFate (Fate.Wide w at) = ⊥
-
 pub low_itself : (m : Mode) (n : ℕ) (q : Matrix) (d final : ℕ) (p : Path) (f : Fate) → IsFate m n q d p (word_of p f) f → final ≤ word_of p f
     → IsLow m n q (cone_at n q p) → length p ≤ final → IsLowFate f
 low_itself m n q d final p (Closed w) fate le low short = absurd (fate.2 low)

@@ -7,7 +7,9 @@
 --     bound_under m word         the bound that the word stands for
 --     IsFate m n q d path word f f is the fate of the cone at path, with limit d, under the word
 --     IsJudgement                a judgement's least value, fate and word are right, with the final word
+--     IsLowFate, IsEndFate       a generator is low; the cone is at the limit or a child does not fit
 --     IsFair m n q d list final  one judgement for the root and for each child of a Split, and for no other path
+--     IsFairPart                 the judgements of a fair list that an answer looks at, and maybe others of it
 use Rattle.std.specs.Prelude.{ℕ, zero, suc, ℤ, pos, negsuc, ◌<◌, ◌≤◌, ◌+◌, ◌-◌, ◌^◌, ◌≡◌, ◌≢◌, ◌⊎◌, Bool, List, [], ◌∷◌, ◌++◌, length, min, max, Some}
 use Rattle.std.specs.List.{Contains}
 use Rattle.std.specs.Int.{int_min}
@@ -100,6 +102,23 @@ IsSplit (Dropped w) = ⊥
 IsSplit (AtLimit w) = ⊥
 IsSplit (Wide w at) = ⊥
 
+abbrev pub IsLowFate : Fate → Type 0
+IsLowFate (Closed w) = ⊥
+IsLowFate (Split i j w) = ⊥
+IsLowFate (Low k) = Unit {0}
+IsLowFate (Dropped w) = ⊥
+IsLowFate (AtLimit w) = ⊥
+IsLowFate (Wide w at) = ⊥
+
+-- the cone is at the limit, or a child does not fit
+abbrev pub IsEndFate : Fate → Type 0
+IsEndFate (Closed w) = ⊥
+IsEndFate (Split i j w) = ⊥
+IsEndFate (Low k) = ⊥
+IsEndFate (Dropped w) = ⊥
+IsEndFate (AtLimit w) = Unit {0}
+IsEndFate (Wide w at) = Unit {0}
+
 pub record IsJudgement (m : Mode) (n : ℕ) (q : Matrix) (d : ℕ) (final : ℕ) (j : Judged) : Type 0 where
   pub least : j.least ≡ least_value n q (cone_at n q j.path)
   pub fate : IsFate m n q d j.path (word_of j.path j.fate) j.fate
@@ -134,3 +153,16 @@ pub record IsFair (m : Mode) (n : ℕ) (q : Matrix) (d : ℕ) (judged : List Jud
   pub once : IsOnceEach judged
   pub judgements : (j : Judged) → Contains judged j → IsJudgement m n q d final j
   pub final_word : IsFinalWord m n q judged final
+
+-- part has the judgements of all that an answer looks at: the low ones, the ends, and in Least those whose least value is
+-- the final bound
+pub record HasAllThatTells (m : Mode) (final : ℕ) (all part : List Judged) : Type 0 where
+  pub within : (j : Judged) → Contains part j → Contains all j
+  pub low : (j : Judged) → Contains all j → IsLowFate j.fate → Contains part j
+  pub ends : (j : Judged) → Contains all j → IsEndFate j.fate → Contains part j
+  pub attaining : m ≡ Least → 256 ≤ final → (j : Judged) → Contains all j → j.least ≡ bound_under Least final → Contains part j
+
+pub record IsFairPart (m : Mode) (n : ℕ) (q : Matrix) (d : ℕ) (part : List Judged) (final : ℕ) : Type 0 where
+  pub all : List Judged
+  pub fair : IsFair m n q d all final
+  pub tells : HasAllThatTells m final all part

@@ -2,3 +2,4 @@ pub mod Fair
 pub mod Judging
 pub mod Answers
 pub mod Machine
+pub mod Scans

@@ -4,6 +4,7 @@
 mod answer;
 mod fate;
 mod judging;
+mod scan;
 mod searcher;
 mod words;
 
