@@ -28,10 +28,10 @@ gram_child_diagonal n q v i j s =
 
 
 -- ---- the child's Gram matrix from the parent's: row j added to row i, then column j to column i
-child_row : (g : Matrix) (i j k l : ℕ) → k ≡ i → child g i j k l ≡ g i l +ℤ g j l
+pub child_row : (g : Matrix) (i j k l : ℕ) → k ≡ i → child g i j k l ≡ g i l +ℤ g j l
 child_row g i j k l e = ap (λ (f : ℕ → ℤ). f l) (replaced_here g i (λ p. g i p +ℤ g j p) k e)
 
-child_row_other : (g : Matrix) (i j k l : ℕ) → k ≢ i → child g i j k l ≡ g k l
+pub child_row_other : (g : Matrix) (i j k l : ℕ) → k ≢ i → child g i j k l ≡ g k l
 child_row_other g i j k l ne = ap (λ (f : ℕ → ℤ). f l) (replaced_other g i (λ p. g i p +ℤ g j p) k ne)
 
 child_column : (g : Matrix) (i j k l : ℕ) → l ≡ i → child_gram g i j k l ≡ child g i j k i +ℤ child g i j k j

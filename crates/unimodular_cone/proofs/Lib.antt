@@ -19,3 +19,7 @@ pub mod Fields
 pub mod RowSet
 pub mod LimitsSame
 pub mod Replaced
+pub mod ShownAt
+pub mod RootCopies
+pub mod Roots
+pub mod Ways

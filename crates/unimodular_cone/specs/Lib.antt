@@ -6,6 +6,7 @@ pub mod PackedDigits
 pub mod BestPair
 pub mod ConeFields
 pub mod Replacement
+pub mod RootNumbers
 pub mod Mediant
 pub mod Shown
 pub mod Theorems

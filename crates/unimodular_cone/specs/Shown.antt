@@ -12,17 +12,21 @@
 --     IsFirstWide c i j side at   the first entry over its limit in that child, with the child's path
 --     FitsOnBothSides c i j       no entry of either child is over its limit
 --     IsFirstWideBelow c i j at   the first entry over its limit in child 0, and if it fits in child 1
+--     IsFirstWideAt n q path at   the first entry over its limit in the cone that the path reaches, with the path
+--     IsReachable n q path        each cone above the path has a pair and fits
 --     IsWideWhere P fail          the failure is an entry over its limit with P, and not want of memory
 --     NamesPair c pair            the pair of c, from 1; None where no entry beside the diagonal is negative
+--     IsNext c side d             d shows the child on a side of the pair
+--     IsFirstWideNext c side at   the first entry of it over its limit
 --
 -- Generators, places, rows and columns count from 0.
-use Rattle.std.specs.Prelude.{ℕ, ℤ, pos, ◌≤ℤ◌, ◌<◌, ◌≤◌, ◌-◌, ◌≡◌, ◌⊎◌, Bool, true, false, Option, Some, None, List, [], ◌∷◌, ◌++◌, length, slice_index_or}
+use Rattle.std.specs.Prelude.{ℕ, ℤ, pos, ◌≤ℤ◌, ◌<◌, ◌≤◌, ◌-◌, ◌≡◌, ◌≢◌, ◌⊎◌, Bool, true, false, Option, Some, None, List, [], ◌∷◌, ◌++◌, length, slice_index_or}
 use Rattle.exact_forms.specs.Triangles.{entry_in}
 use Rattle.unimodular_cone.specs.declared.refusal.WideAt.{WideAt}
 use Rattle.unimodular_cone.specs.declared.refusal.ConeFail.{ConeFail}
 use Rattle.unimodular_cone.specs.declared.refusal.ConeFail.TheVariants.{Wide, OutOfMemory}
-use Rattle.unimodular_cone.specs.Paths.{Path}
-use Rattle.unimodular_cone.specs.Cones.{Matrix, Generators, gram, cone_at, IsPair, child_on, child_gram_on, FitsLimits, IsFirstOverLimit}
+use Rattle.unimodular_cone.specs.Paths.{Path, IsAbove}
+use Rattle.unimodular_cone.specs.Cones.{Matrix, Generators, gram, cone_at, pair_of, IsPair, Fits, IsFirstOver, child_on, child_gram_on, FitsLimits, IsFirstOverLimit}
 
 pub record ShownCone : Type 0 where
   pub size : ℕ
@@ -79,7 +83,30 @@ abbrev pub IsWideWhere : (WideAt → Type 0) → ConeFail → Type 0
 IsWideWhere P (Wide at) = P at
 IsWideWhere P OutOfMemory = ⊥
 
+-- the first entry over its limit in the cone that the path reaches
+pub record IsFirstWideAt (n : ℕ) (q : Matrix) (path : Path) (at : WideAt) : Type 0 where
+  pub path_is : at.path ≡ path
+  pub entry : IsFirstOver n q (cone_at n q path) at.entry
+
+-- each cone above the path has a pair and fits
+pub record IsReachable (n : ℕ) (q : Matrix) (path : Path) : Type 0 where
+  pub pair : (a : Path) → IsAbove a path → pair_of n (gram n q (cone_at n q a)) ≢ None
+  pub fits : (a : Path) → IsAbove a path → Fits n q (cone_at n q a)
+
 -- ---- the pair
 abbrev pub NamesPair : ShownCone → Option (ℕ × ℕ) → Type 0
 NamesPair c None = (k l : ℕ) → k < l → l < c.size → pos 0 ≤ℤ shown_gram c k l
 NamesPair c (Some (i, j)) = (1 ≤ i) × IsPair c.size (shown_gram c) (i - 1) (j - 1)
+
+-- the child on a side of the pair
+pub record IsNext (c : ShownCone) (side : Bool) (d : ShownCone) : Type 0 where
+  pub i : ℕ
+  pub j : ℕ
+  pub pair : IsPair c.size (shown_gram c) i j
+  pub child : IsChild c i j side d
+
+pub record IsFirstWideNext (c : ShownCone) (side : Bool) (at : WideAt) : Type 0 where
+  pub i : ℕ
+  pub j : ℕ
+  pub pair : IsPair c.size (shown_gram c) i j
+  pub child : IsFirstWide c i j side at

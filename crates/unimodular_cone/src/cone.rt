@@ -1,16 +1,20 @@
 //! Cones that keep their numbers inline.
 
-ghost use Rattle.std.specs.Prelude.{◌≡◌, ◌≢◌, ◌≤◌, ◌<◌, ◌-◌, ◌+◌, length, nat_eq, IfOk, IfErr};
-ghost use Rattle.exact_forms.specs.Triangles.{triangle};
-ghost use Rattle.unimodular_cone.specs.Shown.{IsWithinLimits, IsChild, IsFirstWide, IsWideWhere};
+ghost use Rattle.std.specs.Prelude.{◌≡◌, ◌≢◌, ◌≤◌, ◌<◌, ◌-◌, [], length, nat_eq, None, IfOk, IfErr};
+ghost use Rattle.symmetric_matrix.specs.Symmetric.{entry};
+ghost use Rattle.unimodular_cone.specs.Shown.{IsWithinLimits, IsConeAt, IsChild, IsFirstWide, IsFirstWideAt, IsReachable, IsWideWhere, NamesPair, IsNext, IsFirstWideNext};
 ghost use Rattle.unimodular_cone.specs.Replacement.{IsChildWith, IsFirstWideWith, IsRowSet};
 
 use std::marker::Model;
+use symmetric_matrix::SymInt;
 
 use crate::cone_read::ConeRead;
 use crate::mediant::{first_wide, mediant_coordinates, mediant_row};
+use crate::pair_rule::pair;
 use crate::path::Path;
+use crate::place::place_of;
 use crate::refusal::{ConeFail, WideAt};
+use crate::root_numbers::{first_wide_of, lower_of, unit_rows};
 
 /// A cone: its path, n generators of n coordinates each, and their Gram matrix, all within their limits.
 ///
@@ -56,6 +60,27 @@ impl ConeRead for Cone {
     }
 }
 
+/// The root's cone: the unit vectors, whose Gram matrix is the matrix itself. Refused is exactly a matrix with an entry
+/// over the limit of Gram entries, with the first such entry.
+///
+/// It takes no memory.
+pub fn root(q: &SymInt) -> Result<Cone, ConeFail>
+    ensures made { IfOk result (IsConeAt q.now.size (entry q.now) []) }
+    ensures fits { IfOk result IsWithinLimits }
+    ensures wide { IfErr result (IsWideWhere (IsFirstWideAt q.now.size (entry q.now) [])) }
+{
+    let path = Path::root();
+    if let Some(entry) = first_wide_of(q) {
+        return Err(ConeFail::Wide(WideAt { path, entry }));
+    }
+    Ok(Cone {
+        n: q.n(),
+        path,
+        gram: lower_of(q),
+        generators: unit_rows(),
+    })
+}
+
 /// The child of a cone on a side of the generators i and j, which count from 1: child 0 has v_i + v_j in the place of
 /// v_i, and child 1 has it in the place of v_j. Refused is exactly a child with an entry over its limit, with the first such
 /// entry.
@@ -76,6 +101,36 @@ pub fn child(c: &Cone, i: u8, j: u8, side: u8) -> Result<Cone, ConeFail>
         child_with(c, i - 1, j - 1, path)
     } else {
         child_with(c, j - 1, i - 1, path)
+    }
+}
+
+/// The cone that a path reaches from the root, at each cone by its pair. Each cone above it has to have a pair and to fit.
+/// Refused is exactly a cone with an entry over its limit, with the first such entry.
+pub fn at_path(q: &SymInt, path: &Path) -> Result<Cone, ConeFail>
+    requires { IsReachable q.now.size (entry q.now) path.now }
+    ensures made { IfOk result (IsConeAt q.now.size (entry q.now) path.now) }
+    ensures fits { IfOk result IsWithinLimits }
+    ensures wide { IfErr result (IsWideWhere (IsFirstWideAt q.now.size (entry q.now) path.now)) }
+{
+    let mut cone = root(q)?;
+    for k in 0..path.len() {
+        cone = next(&cone, path.digit(k))?;
+    }
+    Ok(cone)
+}
+
+/// The child of a cone on a side of its pair, which it has to have.
+fn next(c: &Cone, side: u8) -> Result<Cone, ConeFail>
+    requires paired { ¬ NamesPair c.now None }
+    requires digit { side < 2 }
+    requires room { length c.now.path < 200 }
+    ensures made { IfOk result (IsNext c.now (nat_eq side 1)) }
+    ensures fits { IfOk result IsWithinLimits }
+    ensures wide { IfErr result (IsWideWhere (IsFirstWideNext c.now (nat_eq side 1))) }
+{
+    match pair(c) {
+        Some((i, j)) => child(c, i, j, side),
+        None => unreachable!(),
     }
 }
 
@@ -115,15 +170,4 @@ fn set_row(gram: &mut [i128; 36], row: &[i128; 8], r: u8, n: u8)
     for k in 0..n {
         gram[place_of(r.max(k), r.min(k))] = row[usize::from(k)];
     }
-}
-
-/// Where the entry at a row and a column, which count from 0, stands in the lower triangle.
-fn place_of(row: u8, column: u8) -> usize
-    requires below { column ≤ row }
-    requires small { row < 8 }
-    ensures place { result ≡ triangle row + column }
-    ensures inside { result < 36 }
-{
-    let row = usize::from(row);
-    row * (row + 1) / 2 + usize::from(column)
 }

@@ -10,10 +10,12 @@ mod mediant;
 mod mode;
 mod pair_rule;
 mod path;
+mod place;
 mod refusal;
+mod root_numbers;
 
 pub use bound_test::{closed, least_value};
-pub use cone::{Cone, child};
+pub use cone::{Cone, at_path, child, root};
 pub use mediant::children_fit;
 pub use cone_read::ConeRead;
 pub use law::{

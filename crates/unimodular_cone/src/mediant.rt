@@ -87,7 +87,7 @@ fn first_wide_product(row: &[i128; 8], n: u8) -> Option<u8>
 }
 
 /// The entry of the lower triangle at r and k, which count from 0.
-fn gram_entry(r: u8, k: u8) -> WideEntry
+pub fn gram_entry(r: u8, k: u8) -> WideEntry
     requires first { r < 8 }
     requires second { k < 8 }
     ensures { result ≡ wide_gram r k }

@@ -3,7 +3,7 @@ use Rattle.std.proofs.Common.{arith}
 use Rattle.exact_forms.specs.Triangles.{triangle}
 use Rattle.exact_forms.proofs.Triangles.{twice_triangle}
 use Rattle.unimodular_cone.proofs.Fields.{place_below}
-use Rattle.unimodular_cone.proofs.cone.place_of.Goals as goal
+use Rattle.unimodular_cone.proofs.place.place_of.Goals as goal
 
 pub returns : goal.returns
 returns c =

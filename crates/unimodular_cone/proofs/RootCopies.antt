@@ -1,0 +1,95 @@
+-- The numbers of the root's cone as loops make them, and what they show.
+use Rattle.std.specs.Prelude.{◌≡◌, ◌≢◌, ◌⊎◌, ℕ, zero, suc, ◌<◌, ◌≤◌, ◌+◌, ◌^◌, ◌*◌, ◌-◌, max, min, ℤ, pos, ◌*ℤ◌, ◌<ℤ◌, nat_abs, cond, eqb, FitsSigned, List, [], length, slice_index_or, slice_set}
+use Rattle.std.specs.Int.{w128}
+use Rattle.std.proofs.Common.{arith, to_z, of_z, sym, ◌∙◌, ap, ap₂, refl, inl, inr, subst, get_or-set_other, get_or-set_same, length-set}
+use Rattle.std.proofs.lemmas.Int.{ints, to_z-of_z}
+use Rattle.exact_forms.specs.Triangles.{triangle}
+use Rattle.exact_forms.proofs.Triangles.{place_decides}
+use Rattle.symmetric_matrix.specs.Symmetric.{Symmetric, entry, IsNarrow}
+use Rattle.unimodular_cone.specs.Cones.{Matrix, unit_vectors, WideEntry, Coordinate, Gram, IsOverLimit, StandsBefore, FitsLimits, IsFirstOverLimit}
+use Rattle.unimodular_cone.specs.Mediant.{HoldsFirstAt, wide_gram}
+use Rattle.unimodular_cone.specs.RootNumbers.{IsPartRowCopied, IsRowCopied, IsLowerOf, AreUnitRows}
+use Rattle.unimodular_cone.proofs.Fields.{place_below}
+
+-- a number of the matrix that was read
+narrow_back : (z y : ℤ) → z ≡ y → IsNarrow z → to_z w128 (of_z w128 z) ≡ y
+narrow_back z y e narrow = let f : FitsSigned w128 z = omega (arith, ints) in to_z-of_z w128 z f ∙ e
+
+pub row_copied_more : (q : Symmetric) (i k at : ℕ) (old new : List ℤ) (z : ℤ) → IsPartRowCopied q i k old new → length old ≡ 36 → k ≤ i → i < 8
+    → at ≡ triangle i + k → z ≡ entry q i k → IsNarrow z → IsPartRowCopied q i (k + 1) old (slice_set new at (to_z w128 (of_z w128 z)))
+row_copied_more q i k at old new z h size le li place is narrow = record {
+  room = length-set new at v ∙ h.room;
+  row = λ j lj lt. by j lj (last j lt);
+  before = λ a b lb la. get_or-set_other new at (triangle a + b) v (pos 0) (λ e. earlier a b lb la (e ∙ place)) ∙ h.before a b lb la;
+}
+  where
+    v : ℤ
+    v = to_z w128 (of_z w128 z)
+
+    below : triangle i + k < 36
+    below = place_below i k le li
+
+    last : (j : ℕ) → j < k + 1 → (j < k) ⊎ (j ≡ k)
+    last j lt = grind arith
+
+    earlier : (a b : ℕ) → b ≤ a → a < i → triangle a + b ≢ triangle i + k
+    earlier a b lb la e = let d = place_decides a b i k lb le e in let f : a ≡ i = d.0 in omega arith
+
+    by : (j : ℕ) → j ≤ i → ((j < k) ⊎ (j ≡ k)) → slice_index_or (slice_set new at v) (triangle i + j) (pos 0) ≡ entry q i j
+    by j lj (inl lt) = get_or-set_other new at (triangle i + j) v (pos 0) (λ e. absurd (let f : triangle i + j ≡ triangle i + k = e ∙ place in omega arith)) ∙ h.row j lj lt
+    by j lj (inr e) =
+        let f : triangle i + j ≡ at = ap (λ (w : ℕ). triangle i + w) e ∙ sym place in
+        let room : at < length new = omega (arith, h.room, place, below) in
+        ap (λ (w : ℕ). slice_index_or (slice_set new at v) w (pos 0)) f ∙ get_or-set_same new at v (pos 0) room ∙ narrow_back z (entry q i k) is narrow ∙ ap (entry q i) (sym e)
+
+pub lower_more : (q : Symmetric) (i : ℕ) (old new : List ℤ) → IsLowerOf q i old → IsRowCopied q i old new → IsLowerOf q (i + 1) new
+lower_more q i old new h copied = record { entries = λ a b lb la. by a b lb (last a la) }
+  where
+    last : (a : ℕ) → a < i + 1 → (a < i) ⊎ (a ≡ i)
+    last a la = grind arith
+
+    by : (a b : ℕ) → b ≤ a → ((a < i) ⊎ (a ≡ i)) → slice_index_or new (triangle a + b) (pos 0) ≡ entry q a b
+    by a b lb (inl lt) = copied.before a b lb lt ∙ h.entries a b lb lt
+    by a b lb (inr e) = ap (λ (w : ℕ). slice_index_or new (triangle w + b) (pos 0)) e ∙ copied.row b (omega arith) (omega arith) ∙ ap (λ (w : ℕ). entry q w b) (sym e)
+
+-- ---- unit vectors
+pub unit_rows_more : (k at : ℕ) (rows : List (List ℕ)) → AreUnitRows k rows → k < 8 → at ≡ k → AreUnitRows (k + 1) (slice_set rows at (slice_set (slice_index_or rows at []) at 1))
+unit_rows_more k at rows h lk e = rw e (record {
+  room = length-set rows k new ∙ h.room;
+  wide = λ a la. wide a la (same_or_not a k);
+  ones = λ a la. one a la (same_or_not a k);
+  zeros = λ a b la ne. zeroed a b la ne (same_or_not a k);
+})
+  where
+    new : List ℕ
+    new = slice_set (slice_index_or rows k []) k 1
+
+    same_or_not : (a k : ℕ) → (a ≡ k) ⊎ (a ≢ k)
+    same_or_not a k = grind arith
+
+    room : k < length rows
+    room = omega (arith, h.room)
+
+    here : (a : ℕ) → a ≡ k → slice_index_or (slice_set rows k new) a [] ≡ new
+    here a e = ap (λ (w : ℕ). slice_index_or (slice_set rows k new) w []) e ∙ get_or-set_same rows k new [] room
+
+    there : (a : ℕ) → a ≢ k → slice_index_or (slice_set rows k new) a [] ≡ slice_index_or rows a []
+    there a ne = get_or-set_other rows k a new [] ne
+
+    wide : (a : ℕ) → a < 8 → ((a ≡ k) ⊎ (a ≢ k)) → length (slice_index_or (slice_set rows k new) a []) ≡ 8
+    wide a la (inl e) = ap length (here a e) ∙ length-set (slice_index_or rows k []) k 1 ∙ h.wide k lk
+    wide a la (inr ne) = ap length (there a ne) ∙ h.wide a la
+
+    one : (a : ℕ) → a < k + 1 → ((a ≡ k) ⊎ (a ≢ k)) → slice_index_or (slice_index_or (slice_set rows k new) a []) a 0 ≡ 1
+    one a la (inl e) =
+        let long : length (slice_index_or rows k []) ≡ 8 = h.wide k lk in
+        let inside : k < length (slice_index_or rows k []) = omega arith in
+        ap₂ (λ (w : List ℕ) (i : ℕ). slice_index_or w i 0) (here a e) e ∙ get_or-set_same (slice_index_or rows k []) k 1 0 inside
+    one a la (inr ne) = ap (λ (w : List ℕ). slice_index_or w a 0) (there a ne) ∙ h.ones a (omega arith)
+
+    zeroed : (a b : ℕ) → a < 8 → a ≢ b → ((a ≡ k) ⊎ (a ≢ k)) → slice_index_or (slice_index_or (slice_set rows k new) a []) b 0 ≡ 0
+    zeroed a b la ne (inl e) =
+        ap (λ (w : List ℕ). slice_index_or w b 0) (here a e)
+        ∙ get_or-set_other (slice_index_or rows k []) k b 1 0 (λ f. ne (e ∙ sym f))
+        ∙ h.zeros k b lk (λ f. ne (e ∙ f))
+    zeroed a b la ne (inr nk) = ap (λ (w : List ℕ). slice_index_or w b 0) (there a nk) ∙ h.zeros a b la ne

@@ -1,0 +1,63 @@
+-- The way from the root to a path.
+use Rattle.std.specs.Prelude.{◌≡◌, ◌≢◌, ◌⊎◌, ℕ, suc, ◌<◌, ◌≤◌, ◌+◌, Bool, true, false, nat_eq, Option, None, [], ◌∷◌, ◌++◌, length, take}
+use Rattle.std.proofs.Common.{arith, sym, ◌∙◌, ap, refl, inl, inr, subst, length-take-le, take_all}
+use Rattle.std.proofs.lemmas.List.{take_more}
+use Rattle.unimodular_cone.specs.declared.refusal.ConeFail.{ConeFail}
+use Rattle.unimodular_cone.specs.declared.refusal.ConeFail.TheVariants.{Wide, OutOfMemory}
+use Rattle.unimodular_cone.specs.declared.refusal.WideAt.{WideAt}
+use Rattle.unimodular_cone.specs.Paths.{Path, IsAbove, digit_of, digit_at}
+use Rattle.unimodular_cone.specs.Cones.{Matrix, gram, cone_at, pair_of, IsFirstOver}
+use Rattle.unimodular_cone.specs.Shown.{ShownCone, IsConeAt, IsNext, IsFirstWideNext, IsFirstWideAt, IsReachable, IsWideWhere, NamesPair}
+use Rattle.unimodular_cone.proofs.Orders.{take_is_above}
+use Rattle.unimodular_cone.proofs.ShownAt.{child_at_path, wide_at_path, no_pair_at}
+
+digit_back : (b : Bool) → nat_eq (digit_of b) 1 ≡ b
+digit_back false = refl
+digit_back true = refl
+
+pub digit_small : (b : Bool) → digit_of b < 2
+digit_small false = omega arith
+digit_small true = omega arith
+
+module _ (n : ℕ) (q : Matrix) (path : Path) (reach : IsReachable n q path) where
+  -- the root is the path itself, or above it
+  pub wide_at_root : (fail : ConeFail) → IsWideWhere (IsFirstWideAt n q []) fail → IsWideWhere (IsFirstWideAt n q path) fail
+  wide_at_root (Wide at) w = by path refl
+    where
+      by : (p : Path) → path ≡ p → IsFirstWideAt n q path at
+      by [] e = subst (λ (r : Path). IsFirstWideAt n q r at) (sym e) w
+      by (side ∷ rest) e = absurd (reach.fits [] (side, rest, e) at.entry w.entry.over)
+  wide_at_root OutOfMemory w = w
+
+  module _ (k : ℕ) (l : k < length path) (c : ShownCone) (h : IsConeAt n q (take k path) c) where
+    pub has_pair : ¬ NamesPair c None
+    has_pair none = reach.pair (take k path) (take_is_above path k l) (no_pair_at n q (take k path) c h none)
+
+    pub room_below : length path ≤ 200 → length c.path < 200
+    room_below short = let s : length (take k path) ≡ k = length-take-le k path (omega arith) in omega (arith, ap length h.path_is)
+
+    more : take k path ++ nat_eq (digit_of (digit_at path k)) 1 ∷ [] ≡ take (k + 1) path
+    more = ap (λ (b : Bool). take k path ++ b ∷ []) (digit_back (digit_at path k)) ∙ sym (take_more path k false l)
+
+    pub next_at : (d : ShownCone) → IsNext c (nat_eq (digit_of (digit_at path k)) 1) d → IsConeAt n q (take (k + 1) path) d
+    next_at d is = subst (λ (p : Path). IsConeAt n q p d) more (child_at_path n q (take k path) c h is.i is.j (nat_eq (digit_of (digit_at path k)) 1) d is.pair is.child)
+
+    pub wide_next : (fail : ConeFail) → IsWideWhere (IsFirstWideNext c (nat_eq (digit_of (digit_at path k)) 1)) fail → IsWideWhere (IsFirstWideAt n q path) fail
+    wide_next OutOfMemory w = w
+    wide_next (Wide at) w = by (last_or_not (k + 1) (length path) l)
+      where
+        last_or_not : (a b : ℕ) → k < b → (k + 1 ≡ b) ⊎ (k + 1 < b)
+        last_or_not a b l = grind arith
+
+        over : IsFirstOver n q (cone_at n q (take (k + 1) path)) at.entry
+        over = subst (λ (p : Path). IsFirstOver n q (cone_at n q p) at.entry) more (wide_at_path n q (take k path) c h w.i w.j (nat_eq (digit_of (digit_at path k)) 1) at w.pair w.child)
+
+        there : at.path ≡ take (k + 1) path
+        there = w.child.path_is ∙ ap (λ (p : Path). p ++ nat_eq (digit_of (digit_at path k)) 1 ∷ []) h.path_is ∙ more
+
+        by : ((k + 1 ≡ length path) ⊎ (k + 1 < length path)) → IsFirstWideAt n q path at
+        by (inl e) = let whole : take (k + 1) path ≡ path = ap (λ (m : ℕ). take m path) e ∙ take_all (length path) path (omega arith) in record {
+          path_is = there ∙ whole;
+          entry = subst (λ (p : Path). IsFirstOver n q (cone_at n q p) at.entry) whole over;
+        }
+        by (inr lt) = absurd (reach.fits (take (k + 1) path) (take_is_above path (k + 1) lt) at.entry over.over)
