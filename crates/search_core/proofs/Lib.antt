@@ -10,3 +10,5 @@ pub mod Serial
 pub mod Laws
 pub mod ShownFates
 pub mod Firsts
+pub mod WaysDown
+pub mod Parts

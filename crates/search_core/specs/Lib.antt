@@ -3,3 +3,4 @@ pub mod Judging
 pub mod Answers
 pub mod Machine
 pub mod Scans
+pub mod Attaining

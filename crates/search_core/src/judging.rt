@@ -59,7 +59,7 @@ pub fn judge<C: ConeRead>(mode: Mode, c: &C, limit: u8, word: u64) -> Fate
     if let Some(which) = first_low(mode, c) {
         return Fate::Low { which };
     }
-    if closed(c, bound_under(mode, word)) {
+    if closed(c, i128::from(bound_under(mode, word))) {
         return Fate::Closed { word };
     }
     if word == u64::from(depth) {

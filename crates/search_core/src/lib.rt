@@ -2,6 +2,8 @@
 #![tactic(auto)]
 
 mod answer;
+mod attaining;
+mod descent;
 mod fate;
 mod judging;
 mod scan;
@@ -9,6 +11,7 @@ mod searcher;
 mod words;
 
 pub use answer::{Least, Sign};
+pub use descent::{fitting_child, fitting_root};
 pub use fate::{Fate, Judged};
 pub use judging::judge;
 pub use searcher::Searcher;

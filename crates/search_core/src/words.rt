@@ -3,7 +3,7 @@
 //! A word from 0 to 255 says that a low generator was found at that depth; a word w of at least 256 says that the bound is
 //! w - 256.
 
-ghost use Rattle.std.specs.Prelude.{◌≡◌, ◌≤◌, ◌<◌, ◌-◌, ◌^◌, ◌↔◌, IsTrue, nat_abs};
+ghost use Rattle.std.specs.Prelude.{◌≡◌, ◌≤◌, ◌<◌, ◌-◌, ◌^◌, ◌↔◌, IsTrue, nat_abs, pos};
 ghost use Rattle.symmetric_matrix.specs.Symmetric.{entry};
 ghost use Rattle.unimodular_cone.specs.Tree.{IsLowValue};
 ghost use Rattle.unimodular_cone.specs.Answer.{IsNarrow, IsLeastDiagonal};
@@ -80,12 +80,12 @@ pub fn code<C: ConeRead>(mode: Mode, c: &C) -> u64
     code_at(mode, c.path().len(), least_value(c))
 }
 
-/// The bound that a word stands for.
-pub(crate) fn bound_under(mode: Mode, word: u64) -> i128
-    ensures { result ≡ bound_under mode word }
+/// The bound that a word stands for: 0 (Sign), or the word less 256, and at least 1 (Least).
+pub(crate) fn bound_under(mode: Mode, word: u64) -> u64
+    ensures { pos result ≡ bound_under mode word }
 {
     match mode {
         Mode::Sign => 0,
-        Mode::Least => i128::from(word.saturating_sub(256).max(1)),
+        Mode::Least => word.saturating_sub(256).max(1),
     }
 }
