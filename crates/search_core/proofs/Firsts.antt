@@ -49,7 +49,7 @@ found P xs j best h p before = record { member = Contains-push xs j; holds = p; 
     by k pk (inl c) (Some b) h before = no_later_trans j.path b.path k.path before (h.first k c pk)
     by k pk (inr e) best h before = subst (λ (w : Judged). IsNoLater j.path w.path) e (no_later_self j.path)
 
-more_judged : (xs : List Judged) (k : ℕ) (j : Judged) → k < length xs → j ≡ slice_index_or xs k j → take k xs ++ j ∷ [] ≡ take (k + 1) xs
+pub more_judged : (xs : List Judged) (k : ℕ) (j : Judged) → k < length xs → j ≡ slice_index_or xs k j → take k xs ++ j ∷ [] ≡ take (k + 1) xs
 more_judged xs k j l is = sym (take_more xs k j l ∙ ap (λ (w : Judged). take k xs ++ w ∷ []) (sym is))
 
 pub first_kept : (P : Judged → Type 0) (xs : List Judged) (k : ℕ) (j : Judged) (best : Option Judged) → k < length xs → j ≡ slice_index_or xs k j

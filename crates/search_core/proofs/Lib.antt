@@ -12,3 +12,4 @@ pub mod ShownFates
 pub mod Firsts
 pub mod WaysDown
 pub mod Parts
+pub mod Keys

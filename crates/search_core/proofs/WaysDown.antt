@@ -1,5 +1,5 @@
 -- Ways down from the root to a path of the tree.
-use Rattle.std.specs.Prelude.{◌≡◌, ◌⊎◌, ℕ, ◌<◌, ◌≤◌, ◌+◌, ℤ, pos, ◌≤ℤ◌, ◌-◌, ◌^◌, FitsSigned, Bool, true, false, not, IsTrue, ◌↔◌, nat_eq, Some, [], ◌∷◌, ◌++◌, length, take}
+use Rattle.std.specs.Prelude.{◌≡◌, ◌⊎◌, ℕ, ◌<◌, ◌≤◌, ◌+◌, ℤ, pos, ◌≤ℤ◌, ◌-◌, ◌^◌, FitsSigned, Bool, true, false, not, IsTrue, ◌↔◌, nat_eq, Option, Some, None, [], ◌∷◌, ◌++◌, length, take}
 use Rattle.std.specs.Int.{w128}
 use Rattle.std.proofs.lemmas.Int.{ints, to_z-of_z}
 use Rattle.std.proofs.Common.{to_z, of_z, arith, sym, ◌∙◌, ap, refl, inl, inr, subst, length-take-le}
@@ -8,7 +8,7 @@ use Rattle.unimodular_cone.specs.declared.WideAt.{WideAt}
 use Rattle.unimodular_cone.specs.declared.ConeFail.{ConeFail}
 use Rattle.unimodular_cone.specs.declared.ConeFail.TheVariants.{Wide, OutOfMemory}
 use Rattle.unimodular_cone.specs.Paths.{Path, IsAbove, digit_of, digit_at}
-use Rattle.unimodular_cone.specs.Cones.{Matrix, unit_vectors, cone_from, cone_at, child_at, Fits}
+use Rattle.unimodular_cone.specs.Cones.{Matrix, gram, pair_of, unit_vectors, cone_from, cone_at, child_at, Fits}
 use Rattle.unimodular_cone.specs.Tree.{CanSplit, IsInTree, IsClosedAt}
 use Rattle.unimodular_cone.specs.Shown.{ShownCone, IsConeAt, IsNext, IsFirstWide, IsFirstWideAt, IsWideWhere, FitsOnSide, IsReachable}
 use Rattle.unimodular_cone.proofs.Orders.{take_is_above, above_is_take}
@@ -41,6 +41,19 @@ fits_in_tree n q d path root_fits t = by (snoc_cases path)
     by (inr (p, side, e)) =
         let can : CanSplit n q (cone_at n q p) = t.above p (side, [], e) in
         subst (λ (r : Path). Fits n q (cone_at n q r)) (sym e) (rw (cone_at-side n q p side (Some (can.i, can.j)) can.pair) (at_side p can side))
+
+pub reachable : (n : ℕ) (q : Matrix) (d : ℕ) (path : Path) → Fits n q unit_vectors → IsInTree n q d path → IsReachable n q path
+reachable n q d path root_fits t = record {
+  pair = λ a above none. no_pair a (t.above a above) none;
+  fits = λ a above. fits_in_tree n q d a root_fits (in_tree_above n q d a path t above);
+}
+  where
+    no_pair : (a : Path) (can : CanSplit n q (cone_at n q a)) → pair_of n (gram n q (cone_at n q a)) ≡ None → ⊥
+    no_pair a can none = let e : ◌≡◌ {A = Option (ℕ × ℕ)} None (Some (can.i, can.j)) = sym none ∙ can.pair in cc
+
+pub path_not_wide : (n : ℕ) (q : Matrix) (d : ℕ) (path : Path) (fail : ConeFail) → Fits n q unit_vectors → IsInTree n q d path → IsWideWhere (IsFirstWideAt n q path) fail → ⊥
+path_not_wide n q d path (Wide at) fits t w = fits_in_tree n q d path fits t at.entry w.entry.over
+path_not_wide n q d path OutOfMemory fits t w = w
 
 -- ---- the way down
 digit_back : (b : Bool) → nat_eq (digit_of b) 1 ≡ b
@@ -103,3 +116,7 @@ not_test false P Q h yes_q no_q = ((λ _. yes_q (λ x. when_false ⊥ (h.1 x))),
 -- a bound that was handed on
 pub read_bound : (b : ℤ) → pos 0 ≤ℤ b → b ≤ℤ pos (2 ^ 64 - 1) → to_z w128 (of_z w128 b) ≡ b
 read_bound b low high = let fits : FitsSigned w128 b = omega (arith, ints) in to_z-of_z w128 b fits
+
+-- numbers of 128 bits whose bits are the same
+pub same_when_read : (a b : ℤ) → FitsSigned w128 a → FitsSigned w128 b → of_z w128 a ≡ of_z w128 b → a ≡ b
+same_when_read a b fa fb e = sym (to_z-of_z w128 a fa) ∙ ap (to_z w128) e ∙ to_z-of_z w128 b fb

@@ -4,3 +4,4 @@ pub mod Answers
 pub mod Machine
 pub mod Scans
 pub mod Attaining
+pub mod Ends
