@@ -13,3 +13,4 @@ pub mod Firsts
 pub mod WaysDown
 pub mod Parts
 pub mod Keys
+pub mod Mirrors

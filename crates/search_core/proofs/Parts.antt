@@ -1,5 +1,5 @@
 -- What is settled from some judgements of a fair list that have all that tells.
-use Rattle.std.specs.Prelude.{◌≡◌, ◌≢◌, ℕ, zero, suc, ◌<◌, ◌≤◌, ℤ, pos, ◌≤ℤ◌, ◌⊎◌, List, length}
+use Rattle.std.specs.Prelude.{◌≡◌, ◌≢◌, ℕ, zero, suc, ◌<◌, ◌≤◌, ◌-◌, ℤ, pos, ◌≤ℤ◌, ◌⊎◌, List, length}
 use Rattle.std.specs.List.{Contains}
 use Rattle.std.proofs.Common.{arith, sym, ◌∙◌, ap, refl, inl, inr, subst}
 use Rattle.std.proofs.lemmas.Int.{ints}
@@ -12,10 +12,13 @@ use Rattle.unimodular_cone.specs.Paths.{Path, IsNoLater}
 use Rattle.unimodular_cone.specs.Cones.{Matrix, value, cone_at, unit_vectors, Fits}
 use Rattle.unimodular_cone.specs.Tree.{IsInTree, IsFirstLowAt, IsOpen, IsFirstOverBelow}
 use Rattle.unimodular_cone.specs.Answer.{SearchAnswer, IsSearchAnswer, IsNarrow, IsVector}
+use Rattle.unimodular_cone.specs.Shown.{ShownCone, shown_gram, shown_generators, IsConeAt}
 use Rattle.unimodular_cone.proofs.Unique.{both_le}
 use Rattle.search_core.specs.Fair.{Fate, Closed, Split, Low, Dropped, AtLimit, Wide, Judged, word_of, bound_under, least_value, IsFate, IsJudgement, IsFair, IsLowFate, IsEndFate, IsFairPart}
 use Rattle.search_core.specs.Scans.{IsLowOf, IsUnclosedDown, IsOpenEnd, IsFirstWith, FindsFirst, AreInTree}
 use Rattle.search_core.specs.Attaining.{ListsGenerators}
+use Rattle.search_core.specs.declared.settling.End.{End}
+use Rattle.search_core.specs.Ends.{IsEndOf, NamesEnd}
 use Rattle.search_core.proofs.LeastValues.{least_value_le, least_value_attained}
 use Rattle.search_core.proofs.Settle.{IsLimitFate}
 use Rattle.search_core.proofs.Fairness.{judged_in_tree, limit_is_open}
@@ -57,6 +60,21 @@ module _ (m : Mode) (n : ℕ) (q : Matrix) (d : ℕ) (part : List Judged) (final
       → (x : List ℕ) (z : ℤ) → IsVector n x (cone_at n q j.path which) → value n q (cone_at n q j.path) which ≡ z → IsSearchAnswer m n q d (SearchAnswer.Low x z j.path)
   low_answer j which h e x z vector val = answers_low m n q d f.all final s f.fair small some narrow root_fits j (f.tells.within j h.member) which e h.holds.1
       (λ k c low depth. h.first k (f.tells.low k c low) (low, depth)) x z vector val
+
+  pub low_end_answer : (j : Judged) (which : ℕ) → IsFirstWith (IsLowOf final) part j → j.fate ≡ Low which → (c : ShownCone) → IsConeAt n q j.path c
+      → (x : List ℕ) (z g : ℤ) → IsVector c.size x (shown_generators c (which - 1)) → z ≡ g → g ≡ shown_gram c (which - 1) (which - 1) → IsSearchAnswer m n q d (SearchAnswer.Low x z j.path)
+  low_end_answer j which h e c at x z g vector same val = by (first_low_at j which h e)
+    where
+      by : ((k : ℕ) × (which ≡ suc k) × IsFirstLowAt m n q (cone_at n q j.path) k) → IsSearchAnswer m n q d (SearchAnswer.Low x z j.path)
+      by (k, is, first) =
+          let at_k : which - 1 ≡ k = omega arith in
+          let lk : k < n = first.range in
+          low_answer j k h (e ∙ ap Low is) x z
+          (record {
+            size = vector.size ∙ at.cone.size;
+            same = λ p lp. vector.same p (rw at.cone.size lp) ∙ ap (λ (i : ℕ). shown_generators c i p) at_k ∙ at.cone.generators k p lk lp;
+          })
+          (sym (same ∙ val ∙ ap (λ (i : ℕ). shown_gram c i i) at_k ∙ at.cone.gram_is k k lk lk))
 
   -- ---- an open end
   module _ (large : 256 ≤ final) where
@@ -110,3 +128,12 @@ found_answer n q d part final s f small some narrow root_fits large none vectors
         let above : bound_under Least final ≤ℤ value n q (cone_at n q j.path) r.0 = bound.least j.path r.0 (judged_in_tree Least n q d f.all final s f.fair j c) r.1 in
         let e : j.least ≡ bound_under Least final = least ∙ both_le _ _ (subst (λ (z : ℤ). least_value n q (cone_at n q j.path) ≤ℤ z) val below) (subst (λ (z : ℤ). bound_under Least final ≤ℤ z) r.2 above) in
         lists.all j k x (f.tells.attaining refl large j c e) e l vector val
+
+-- ---- the end that is named
+pub named_end : (m : Mode) (n : ℕ) (q : Matrix) (d : ℕ) (part : List Judged) (final : ℕ) → IsSymmetric n q → (f : IsFairPart m n q d part final) → d ≤ 200 → 0 < n → IsNarrow m n q → Fits n q unit_vectors → 256 ≤ final
+    → (j : Judged) (end : End) → IsFirstWith (IsOpenEnd n q (bound_under m final)) part j → NamesEnd j end → IsEndOf m n q d part final end
+named_end m n q d part final s f small some narrow root_fits large j (End.Low x z path) h e = absurd e
+named_end m n q d part final s f small some narrow root_fits large j (End.Depth path) h (same, (word, e)) =
+    subst (λ (p : Path). IsSearchAnswer m n q d (SearchAnswer.Depth p)) (sym same) (depth_answer m n q d part final s f small some narrow root_fits large j word h e)
+named_end m n q d part final s f small some narrow root_fits large j (End.Wide at) h (word, e) = wide_answer m n q d part final s f small some narrow root_fits large j word at h e
+named_end m n q d part final s f small some narrow root_fits large j End.Closed h e = absurd e

@@ -4,9 +4,9 @@ ghost use Rattle.std.specs.Prelude.{◌≡◌, ◌≤◌, ◌<◌};
 ghost use Rattle.symmetric_matrix.specs.Symmetric.{entry};
 ghost use Rattle.unimodular_cone.specs.Cones.{unit_vectors, Fits};
 ghost use Rattle.unimodular_cone.specs.Answer.{IsNarrow};
-ghost use Rattle.search_core.specs.Fair.{IsFair, IsFairPart};
+ghost use Rattle.search_core.specs.Fair.{IsFair, IsFairPart, IsEndFate};
 ghost use Rattle.search_core.specs.Answers.{IsLeastAnswer, IsSignAnswer};
-ghost use Rattle.search_core.specs.Ends.{IsEndOf};
+ghost use Rattle.search_core.specs.Ends.{IsEndOf, NamesEnd};
 
 use crate::answer::{Least, Sign};
 use crate::attaining::{attaining, fitting_cone, generator};
@@ -53,6 +53,18 @@ fn low_end(alloc: Global, mode: Mode, q: &SymInt, limit: u8, judged: &[Judged], 
     }
 }
 
+/// The end that a judgement at the limit, or with a child that does not fit, names.
+fn open_end(first: Judged) -> End
+    requires { IsEndFate first.fate }
+    ensures { NamesEnd first result }
+{
+    match first.fate {
+        Fate::AtLimit { .. } => End::Depth { path: first.path },
+        Fate::Wide { at, .. } => End::Wide { at },
+        _ => unreachable!(),
+    }
+}
+
 /// The end of a search from some judgements of a fair list, with the final word.
 fn end_of(alloc: Global, mode: Mode, q: &SymInt, limit: u8, judged: &[Judged], final_word: u64) -> End
     requires part { IsFairPart mode q.now.size (entry q.now) limit judged.now final_word }
@@ -66,11 +78,7 @@ fn end_of(alloc: Global, mode: Mode, q: &SymInt, limit: u8, judged: &[Judged], f
     }
     let _n = q.n();
     match first_open(q, limit, bound_under(mode, final_word), judged) {
-        Some(first) => match first.fate {
-            Fate::AtLimit { .. } => End::Depth { path: first.path },
-            Fate::Wide { at, .. } => End::Wide { at },
-            _ => unreachable!(),
-        },
+        Some(first) => open_end(first),
         None => End::Closed,
     }
 }
