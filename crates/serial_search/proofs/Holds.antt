@@ -1,12 +1,14 @@
 -- What the answers say, and the answers at the root.
-use Rattle.std.specs.Prelude.{◌≡◌, ℕ, [], List}
+use Rattle.std.specs.Prelude.{◌≡◌, ◌≢◌, ℕ, [], List}
 use Rattle.std.proofs.Common.{sym, inl, subst}
 use Rattle.exact_forms.specs.Forms.{IsSymmetric}
 use Rattle.unimodular_cone.specs.declared.Mode.{Mode}
 use Rattle.unimodular_cone.specs.declared.WideAt.{WideAt}
+use Rattle.unimodular_cone.specs.declared.ConeFail.{ConeFail}
+use Rattle.unimodular_cone.specs.declared.ConeFail.TheVariants.{Wide, OutOfMemory}
 use Rattle.unimodular_cone.specs.Cones.{Matrix, gram, cone_from, unit_vectors, Fits, FitsLimits}
 use Rattle.unimodular_cone.specs.Answer.{SearchAnswer, IsSearchAnswer, IsNarrow}
-use Rattle.unimodular_cone.specs.Shown.{ShownCone, shown_gram, shown_generators, IsWithinLimits, IsConeAt, IsFirstWideAt}
+use Rattle.unimodular_cone.specs.Shown.{ShownCone, shown_gram, shown_generators, IsWithinLimits, IsConeAt, IsFirstWideAt, IsWideWhere}
 use Rattle.unimodular_cone.proofs.LimitsSame.{fits_same}
 use Rattle.unimodular_cone.proofs.Minimum.{minimum_is, copositive_is, low_is}
 use Rattle.search_core.specs.declared.Least.{Least}
@@ -36,3 +38,7 @@ sign_holds n q d (Sign.Low x z path) s a = low_is Mode.Sign n q d x z path a
 sign_holds n q d (Sign.Depth path) s a = tt
 sign_holds n q d (Sign.Wide at) s a = tt
 sign_holds n q d Sign.OutOfMemory s a = tt
+
+pub not_memory : (P : WideAt → Type 0) (fail : ConeFail) → IsWideWhere P fail → fail ≢ OutOfMemory
+not_memory P (Wide at) w e = (cc)
+not_memory P OutOfMemory w e = w

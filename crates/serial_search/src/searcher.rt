@@ -1,15 +1,16 @@
 //! The searcher on one thread.
 
-ghost use Rattle.std.specs.Prelude.{◌≡◌, ◌≤◌, ◌<◌, ◌^◌, ◌-◌, ◌<ℤ◌, pos, MatchOption};
+ghost use Rattle.std.specs.Prelude.{◌≡◌, ◌≢◌, ◌≤◌, ◌<◌, ◌^◌, ◌-◌, ◌<ℤ◌, pos, MatchOption};
 ghost use Rattle.symmetric_matrix.specs.Symmetric.{entry};
 ghost use Rattle.unimodular_cone.specs.Answer.{IsNarrow, IsLeastDiagonal};
+ghost use Rattle.unimodular_cone.specs.declared.ConeFail.TheVariants.{Wide, OutOfMemory};
 ghost use Rattle.search_core.specs.Answers.{IsLeastAnswer, IsSignAnswer};
 
 use crate::search::search;
 use search_core::{Least, Searcher, Sign, least_diagonal, settle_least_part, settle_sign_part};
 use std::alloc::Global;
 use symmetric_matrix::SymInt;
-use unimodular_cone::{ConeFail, Mode, root};
+use unimodular_cone::{ConeFail, Mode, WideAt, root};
 
 /// A searcher on one thread: depth first, child 0 before child 1, under the falling word. It always returns.
 #[derive(Drop)]
@@ -49,6 +50,17 @@ fn bound_wide(q: &SymInt) -> Option<i128>
     }
 }
 
+/// The entry over its limit that a refusal names.
+fn wide_entry(fail: ConeFail) -> WideAt
+    requires { fail ≢ OutOfMemory }
+    ensures { fail ≡ Wide result }
+{
+    match fail {
+        ConeFail::Wide(at) => at,
+        ConeFail::OutOfMemory => unreachable!(),
+    }
+}
+
 /// The least value of a matrix whose least diagonal entry is at most 2^63 - 1.
 fn least_within(alloc: Global, q: &SymInt, limit: u8) -> Least
     requires limited { limit ≤ 200 }
@@ -56,8 +68,9 @@ fn least_within(alloc: Global, q: &SymInt, limit: u8) -> Least
     ensures { IsLeastAnswer q.now.size (entry q.now) limit result }
 {
     match root(q) {
-        Err(ConeFail::Wide(at)) => Least::Wide { at },
-        Err(ConeFail::OutOfMemory) => Least::OutOfMemory,
+        Err(fail) => Least::Wide {
+            at: wide_entry(fail),
+        },
         Ok(cone) => match search(alloc, Mode::Least, q, limit, cone) {
             Ok(found) => settle_least_part(alloc, q, limit, &found.judged, found.final_word),
             Err(_) => Least::OutOfMemory,
@@ -71,8 +84,9 @@ fn sign_within(alloc: Global, q: &SymInt, limit: u8) -> Sign
     ensures { IsSignAnswer q.now.size (entry q.now) limit result }
 {
     match root(q) {
-        Err(ConeFail::Wide(at)) => Sign::Wide { at },
-        Err(ConeFail::OutOfMemory) => Sign::OutOfMemory,
+        Err(fail) => Sign::Wide {
+            at: wide_entry(fail),
+        },
         Ok(cone) => match search(alloc, Mode::Sign, q, limit, cone) {
             Ok(found) => settle_sign_part(alloc, q, limit, &found.judged, found.final_word),
             Err(_) => Sign::OutOfMemory,
