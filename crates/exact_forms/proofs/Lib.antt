@@ -18,3 +18,5 @@ pub mod Shown
 pub mod RankOne
 pub mod Neighbours
 pub mod Rays
+pub mod PositiveTerms
+pub mod Lowest

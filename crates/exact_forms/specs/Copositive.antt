@@ -1,5 +1,6 @@
 -- Copositive matrices, the copositive minimum, perfect lists of vectors and their rays.
 --
+--     Matrix                       whole entries by row and column
 --     IsCopositive n q             no vector of n places has a negative value Q[x]
 --     IsStrictlyCopositive n q     each nonzero vector of n places has a positive value Q[x]
 --     Attains n q m x              x is a nonzero vector of n places with Q[x] = m

@@ -11,3 +11,5 @@ pub mod Copositive
 pub mod Factors
 pub mod RankOne
 pub mod Neighbours
+pub mod PositiveTerms
+pub mod Lowest

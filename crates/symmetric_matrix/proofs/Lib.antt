@@ -5,3 +5,9 @@ pub mod Runs
 pub mod Frames
 pub mod Telescopes
 pub mod Weights
+pub mod TrianglePlaces
+pub mod Recipes
+pub mod FormSteps
+pub mod InnerSteps
+pub mod Divisors
+pub mod BinaryDivisors

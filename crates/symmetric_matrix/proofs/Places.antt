@@ -1,37 +1,22 @@
 -- Where an entry stands in a lower triangle.
 use Rattle.std.specs.Prelude.{◌≡◌, ℕ, zero, suc, ◌+◌, ◌-◌, ◌*◌, ◌/◌, ◌<◌, ◌≤◌, ◌⊎◌, ℤ, pos, length, slice_index_or, min, max}
-use Rattle.std.proofs.Common.{arith, sym, ◌∙◌, ap, refl, mul-le-mul, inl, inr}
+use Rattle.std.proofs.Common.{arith, sym, ◌∙◌, ap, inl, inr}
 use Rattle.std.proofs.lemmas.List.{get_or_default}
-use Rattle.exact_forms.specs.Triangles.{triangle, entry_in}
-use Rattle.symmetric_matrix.specs.Symmetric.{Symmetric, IsNarrow, IsLower, IsSymmetricMatrix, entry}
-
-pub triangle-suc : (n : ℕ) → triangle (suc n) ≡ triangle n + suc n
-unfolding triangle
-triangle-suc n = refl
-
-pub twice_triangle : (n : ℕ) → 2 * triangle n ≡ n * (n + 1)
-unfolding triangle
-twice_triangle zero = refl
-twice_triangle (suc n) = let e : 2 * triangle n ≡ n * (n + 1) = twice_triangle n in omega arith
+use Rattle.exact_forms.specs.Triangles.{triangle}
+use Rattle.exact_forms.proofs.Triangles.{twice_triangle, entry_before, entry_in_below, entry_in_symmetric}
+use Rattle.symmetric_matrix.specs.Symmetric.{Symmetric, IsNarrow, IsSymmetricMatrix, entry}
 
 pub half_is_triangle : (r : ℕ) → r * (r - 1) / 2 ≡ triangle (r - 1)
 half_is_triangle zero = let e = twice_triangle 0 in omega arith
 half_is_triangle (suc n) = let before : suc n - 1 ≡ n = omega arith in let e = twice_triangle n in rw before (omega arith)
 
-pub triangle-mono : (m n : ℕ) → m ≤ n → triangle m ≤ triangle n
-triangle-mono m n h = let p : m * (m + 1) ≤ n * (n + 1) = mul-le-mul h (omega arith) in omega (arith, twice_triangle m, twice_triangle n)
-
--- an entry of a row below n stands in the triangle of n rows
-pub place_inside : (n i j : ℕ) → i < n → j ≤ i → triangle i + j < triangle n
-place_inside n i j hi hj = omega (arith, triangle-suc i, triangle-mono (suc i) n (omega arith))
-
 pub entry_at : (q : Symmetric) (i j : ℕ) → j ≤ i → entry q i j ≡ slice_index_or q.lower (triangle i + j) (pos 0)
-unfolding entry entry_in
-entry_at q i j h = grind arith
+unfolding entry
+entry_at q i j h = entry_in_below (pos 0) q.lower i j h
 
 pub entry_flip : (q : Symmetric) (i j : ℕ) → entry q i j ≡ entry q j i
-unfolding entry entry_in
-entry_flip q i j = grind arith
+unfolding entry
+entry_flip q i j = entry_in_symmetric (pos 0) q.lower i j
 
 -- the entry by the larger and the smaller of its places
 pub entry_sorted : (q : Symmetric) (i j : ℕ) → entry q i j ≡ slice_index_or q.lower (triangle (max i j) + min i j) (pos 0)
@@ -46,13 +31,13 @@ entry_sorted q i j = by (order i j)
 
 pub entry_narrow : (q : Symmetric) → IsSymmetricMatrix q → (i j : ℕ) → i < q.size → j < q.size → IsNarrow (entry q i j)
 entry_narrow q m i j hi hj =
-    let inside : triangle (max i j) + min i j < triangle q.size = place_inside q.size (max i j) (min i j) (omega arith) (omega arith) in
+    let inside : triangle (max i j) + min i j < triangle q.size = entry_before (max i j) (min i j) q.size (omega arith) (omega arith) in
     rw (entry_sorted q i j) (m.triangle.narrow (triangle (max i j) + min i j) (omega (arith, m.triangle.entries)))
 
 -- where row r, column c, counted from 1, stand in the triangle
 pub place_in_range : (q : Symmetric) → IsSymmetricMatrix q → (r c k : ℕ) → 1 ≤ r → r ≤ q.size → 1 ≤ c → c ≤ q.size
     → k ≡ triangle (max r c - 1) + (min r c - 1) → k < length q.lower
-place_in_range q m r c k hr lr hc lc e = omega (arith, m.triangle.entries, place_inside q.size (max r c - 1) (min r c - 1) (omega arith) (omega arith))
+place_in_range q m r c k hr lr hc lc e = omega (arith, m.triangle.entries, entry_before (max r c - 1) (min r c - 1) q.size (omega arith) (omega arith))
 
 -- and what is read there
 pub read_is_entry : (s q : Symmetric) → s ≡ q → IsSymmetricMatrix s → (r c k : ℕ) (z : ℤ) → 1 ≤ r → r ≤ q.size → 1 ≤ c → c ≤ q.size

@@ -1,5 +1,5 @@
 -- Runs of ones, their vectors, and the order in which they are listed.
-use Rattle.std.specs.Prelude.{◌≡◌, ℕ, zero, suc, ◌+◌, ◌-◌, ◌<◌, ◌≤◌, ◌⊎◌, ◌&&◌, nat_le, if◌then◌else◌, List, [], ◌∷◌, ◌++◌, length, map, take, ◌≢◌, slice_index, slice_index_or}
+use Rattle.std.specs.Prelude.{◌≡◌, ℕ, zero, suc, ◌+◌, ◌-◌, ◌<◌, ◌≤◌, ◌⊎◌, List, [], ◌∷◌, ◌++◌, length, map, take, ◌≢◌, slice_index_or}
 use Rattle.std.specs.List.{All, Contains, range_with_len, flat_map}
 use Rattle.std.proofs.Common.{set, arith, sym, ◌∙◌, ap, ap₂, refl, subst, inl, inr}
 use Rattle.std.proofs.lemmas.List.{length-append, append-nil, append_assoc, map-append, length-map, get_or-map, length-take-le, get_or-take, get_or-set_same, get_or-set_other, map-id}
@@ -11,7 +11,7 @@ use Rattle.exact_forms.proofs.Triangles.{triangle-zero, triangle-suc}
 use Rattle.exact_forms.specs.Vectors.{ComesBefore, IsIncreasing}
 use Rattle.exact_forms.proofs.Vectors.{increasing_push}
 use Rattle.symmetric_matrix.specs.Lists.{IsVector, CanFollow}
-use Rattle.symmetric_matrix.specs.StartVectors.{Run, run_digit, run_vector, runs_from, late_runs, start_list, IsRunWithin, IsStartVector, ListsStartVectors}
+use Rattle.symmetric_matrix.specs.StartVectors.{Run, run_digit, run_vector, runs_from, late_runs, start_list, IsRunWithin, ListsStartVectors}
 use Rattle.symmetric_matrix.proofs.Lists.{comes_before_at}
 
 -- ---- the vector of a run
@@ -69,7 +69,7 @@ pub runs_from_more : (j m : ℕ) → runs_from j (m + 1) ≡ runs_from j m ++ re
 unfolding runs_from
 runs_from_more j m = map-range_with_len_more (λ k. record { first = j; last = k }) j m (j + m) refl
 
-range_more : (m : ℕ) → range_with_len 0 (m + 1) ≡ range_with_len 0 m ++ m ∷ []
+pub range_more : (m : ℕ) → range_with_len 0 (m + 1) ≡ range_with_len 0 m ++ m ∷ []
 range_more m = sym (map-id (range_with_len 0 (m + 1))) ∙ map-range_with_len_more (λ (k : ℕ). k) 0 m m (omega arith) ∙ ap (λ (ks : List ℕ). ks ++ m ∷ []) (map-id (range_with_len 0 m))
 
 pub late_runs_none : (n : ℕ) → late_runs n 0 ≡ []

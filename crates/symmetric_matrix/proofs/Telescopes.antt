@@ -1,8 +1,8 @@
 -- Sums over the start runs, in any commutative ring: the weights of a matrix give it back.
-use Rattle.std.specs.Prelude.{◌≡◌, ◌≢◌, ℕ, zero, suc, ◌+◌, ◌-◌, ◌<◌, ◌≤◌, ◌⊎◌, ℤ, pos, negsuc, ◌*ℤ◌, List, [], ◌∷◌, ◌++◌, length, slice_index_or}
+use Rattle.std.specs.Prelude.{◌≡◌, ℕ, zero, suc, ◌+◌, ◌-◌, ◌<◌, ◌≤◌, ◌⊎◌, pos, ◌*ℤ◌, List, [], ◌∷◌, ◌++◌, length, slice_index_or}
 use Rattle.std.proofs.Common.{arith, sym, ◌∙◌, ap, ap₂, refl, inl, inr}
 use Rattle.commutative_ring.proofs.Ring.{CommutativeRing, ring_in, num, ◌⊕◌, ◌⊗◌, ◌⊖◌, v0, v1, v2, v3}
-use Rattle.commutative_ring.proofs.SumOf.{total, total-zero, total-suc, total_same, total_none, total_more, total_head}
+use Rattle.commutative_ring.proofs.SumOf.{total, total-zero, total-suc, total_none, total_head}
 use Rattle.symmetric_matrix.specs.StartVectors.{Run, run_digit, runs_from, late_runs}
 use Rattle.symmetric_matrix.specs.StartWeights.{framed}
 use Rattle.symmetric_matrix.proofs.Runs.{run_digit_inside, run_digit_before, run_digit_after, runs_from_none, runs_from_more, late_runs_none, late_runs_more}
@@ -16,7 +16,7 @@ module _ {A : Type 0} (R : CommutativeRing A) where
   minus_same x = ring_in R (x ∷ []) (v0 ⊖ v0) (num (pos 0)) refl
 
   -- ---- sums over a list
-  pub list_sum : {X : Type 0} → (X → A) → List X → A
+  unfoldable pub list_sum : {X : Type 0} → (X → A) → List X → A
   list_sum f [] = R.of_int (pos 0)
   list_sum f (x ∷ xs) = R.add (f x) (list_sum f xs)
 

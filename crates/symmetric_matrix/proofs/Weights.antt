@@ -1,6 +1,5 @@
 -- The weights of a matrix are its coordinates over the matrices of the start vectors, and the only ones.
-use Rattle.std.specs.Prelude.{◌≡◌, ◌≢◌, ℕ, zero, suc, ◌+◌, ◌*◌, ◌<◌, ◌≤◌, ◌⊎◌, ℤ, pos, negsuc, ◌+ℤ◌, ◌*ℤ◌, neg_ℤ, List, [], ◌∷◌, length, map, slice_index_or}
-use Rattle.std.specs.List.{Contains}
+use Rattle.std.specs.Prelude.{◌≡◌, ◌≢◌, ℕ, ◌+◌, ◌*◌, ◌<◌, ◌⊎◌, ℤ, pos, negsuc, ◌+ℤ◌, ◌*ℤ◌, neg_ℤ, List, [], ◌∷◌, length, map, slice_index_or}
 use Rattle.std.proofs.Common.{arith, sym, ◌∙◌, ap, ap₂, refl, inl, inr}
 use Rattle.std.proofs.lemmas.List.{get_or-map, length-map}
 use Rattle.std.proofs.lemmas.List.Elements.{All-contains, Contains-get_or}
@@ -16,8 +15,8 @@ use Rattle.exact_forms.proofs.Vectors.{increasing_once}
 use Rattle.symmetric_matrix.specs.StartVectors.{Run, run_digit, run_vector, late_runs, start_list, IsRunWithin}
 use Rattle.symmetric_matrix.specs.StartWeights.{framed, start_weight, start_weights, start_coordinates}
 use Rattle.symmetric_matrix.proofs.Runs.{run_vector_at, late_runs_all, late_increasing, start_list_is, IsLate}
-use Rattle.symmetric_matrix.proofs.Frames.{framed_same, framed-map, framed_family, framed_product, padded, padded_run, edge, edge_inside, edge_before, edge_after, edges_apart}
-use Rattle.symmetric_matrix.proofs.Telescopes.{minus, list_sum, total_of_list, edged, weight_in, weight_in_is, mark_of, share, shares_give_entry}
+use Rattle.symmetric_matrix.proofs.Frames.{framed_same, framed-map, framed_family, framed_product, padded_run, edge, edge_inside, edge_before, edge_after, edges_apart}
+use Rattle.symmetric_matrix.proofs.Telescopes.{minus, total_of_list, edged, weight_in, mark_of, share, shares_give_entry}
 
 abbrev pub no_run : Run
 no_run = record { first = 0; last = 0 }

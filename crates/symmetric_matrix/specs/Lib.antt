@@ -4,3 +4,5 @@ pub mod Symmetric
 pub mod Lists
 pub mod StartVectors
 pub mod StartWeights
+pub mod Recipes
+pub mod Divisors

@@ -1,9 +1,18 @@
 //! Symmetric matrices of whole numbers, by their lower triangle.
 
-ghost use Rattle.std.specs.Prelude.{◌≡◌, ◌+◌, ◌-◌, ◌≤◌, IfOk};
+ghost use Rattle.std.specs.Prelude.{◌≡◌, ◌+◌, ◌-◌, ◌≤◌, pos, nat_abs, length, IfOk};
+ghost use Rattle.exact_forms.specs.Forms.{form, inner};
+ghost use Rattle.exact_forms.specs.Vectors.{coordinate};
 ghost use Rattle.exact_forms.specs.Triangles.{triangle};
 ghost use Rattle.symmetric_matrix.specs.Symmetric.{Symmetric, IsNarrow, IsLower, IsSymmetricMatrix, entry};
+ghost use Rattle.symmetric_matrix.specs.Owed.{answer};
+ghost use Rattle.symmetric_matrix.specs.Operations.{is_owed};
+ghost use Rattle.symmetric_matrix.specs.Recipes.{form_ops, inner_ops};
+ghost use Rattle.symmetric_matrix.specs.Divisors.{divisor_from, IsGreatestDivisor};
 
+use crate::divisor::divisor_of;
+use crate::forms::{form_of, inner_of};
+use crate::{IntOp, IntVector};
 use std::alloc::{AllocError, Global};
 use std::marker::Model;
 
@@ -58,6 +67,44 @@ impl SymInt {
         let below = row.max(column);
         let beside = row.min(column);
         self.lower[place_of(below, beside)]
+    }
+}
+
+impl SymInt {
+    /// The same matrix again. It is refused for want of memory alone.
+    pub fn copy(&self) -> Result<SymInt, AllocError>
+        ensures { IfOk result (λ q. q ≡ self.now) }
+    {
+        SymInt::from_lower(*self.lower.allocator(), self.size, self.lower.as_slice())
+    }
+
+    /// Q[x] for a vector of as many coordinates as the matrix has rows, or the first operation that does not fit.
+    ///
+    /// To a sum from 0 it adds, entry by entry of the lower triangle, Q_ij times x_i·x_j, which is doubled beside the diagonal.
+    pub fn form(&self, x: &IntVector) -> Result<i128, IntOp>
+        requires { length x.now ≡ self.now.size }
+        ensures { result ≡ answer is_owed (form_ops self.now x.now) (form self.now.size (entry self.now) (coordinate x.now)) }
+    {
+        form_of(self.lower.as_slice(), x.as_slice())
+    }
+
+    /// ⟨Q,S⟩, the sum of Q_ij·S_ij over all rows and columns of two matrices of one size, or the first operation that does not fit.
+    ///
+    /// To a sum from 0 it adds, entry by entry of the lower triangle, Q_ij times m·S_ij, where m is 1 on the diagonal and else 2.
+    pub fn inner(&self, other: &SymInt) -> Result<i128, IntOp>
+        requires { self.now.size ≡ other.now.size }
+        ensures { result ≡ answer is_owed (inner_ops self.now other.now) (inner self.now.size (entry self.now) (entry other.now)) }
+    {
+        inner_of(self.size, self.lower.as_slice(), other.lower.as_slice())
+    }
+
+    /// The greatest common divisor of the entries, which is 0 for the zero matrix alone.
+    pub fn gcd_of_entries(&self) -> i128
+        ensures value { result ≡ pos (divisor_from 0 self.now.lower) }
+        ensures greatest { IsGreatestDivisor (nat_abs result) self.now.lower }
+        ensures narrow { IsNarrow result }
+    {
+        divisor_of(self.lower.as_slice()) as i128
     }
 }
 

@@ -24,6 +24,10 @@ pub struct IntOp {
 pub fn int_mul(left: i128, right: i128) -> Result<i128, IntOp>
     ensures { result ≡ answer is_owed (mul_op left right ∷ []) (left *ℤ right) }
 {
+    if let (Ok(left), Ok(right)) = (i64::try_from(left), i64::try_from(right)) {
+        // The common case, by one plain multiplication: at most 2^126.
+        return Ok(i128::from(left) * i128::from(right));
+    }
     match left.checked_mul(right) {
         // -2^127 has an i128, and does not fit.
         Some(product) if product != i128::MIN => Ok(product),

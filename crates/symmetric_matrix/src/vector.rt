@@ -1,10 +1,12 @@
 //! Vectors of a few nonnegative whole numbers, kept inline.
 
-ghost use Rattle.std.specs.Prelude.{◌≡◌, ℕ, ◌-◌, ◌^◌, ◌≤◌, List, length, slice_index};
+ghost use Rattle.std.specs.Prelude.{◌≡◌, ◌↔◌, ℕ, ◌-◌, ◌^◌, ◌≤◌, List, length, slice_index};
+ghost use Rattle.exact_forms.specs.Vectors.{ComesBefore};
 ghost use Rattle.symmetric_matrix.specs.Lists.{IsVector};
 
 use smallvec::SmallVec;
 use std::alloc::Global;
+use std::cmp::Ordering;
 use std::marker::Model;
 
 /// A vector of 1 to 8 coordinates, each at most 2^62.
@@ -51,6 +53,18 @@ impl IntVector {
         ensures vector { IsVector self.now }
     {
         self.coordinates.len() as u8
+    }
+
+    /// The lexicographic order of two vectors of one length.
+    pub fn cmp(&self, other: &IntVector) -> Ordering
+        requires { length self.now ≡ length other.now }
+        ensures less { (result ≡ Ordering.Less) ↔ ComesBefore self.now other.now }
+        ensures equal { (result ≡ Ordering.Equal) ↔ (self.now ≡ other.now) }
+        ensures greater { (result ≡ Ordering.Greater) ↔ ComesBefore other.now self.now }
+    {
+        self.coordinates
+            .as_slice()
+            .cmp(other.coordinates.as_slice())
     }
 
     /// The same vector again.

@@ -26,7 +26,6 @@ gram_child_diagonal n q v i j s =
     tidy : (a b c d : ℤ) → c ≡ b → (a +ℤ b) +ℤ (c +ℤ d) ≡ a +ℤ pos 2 *ℤ b +ℤ d
     tidy a b c d e = omega (arith, ints)
 
-
 -- ---- the child's Gram matrix from the parent's: row j added to row i, then column j to column i
 pub child_row : (g : Matrix) (i j k l : ℕ) → k ≡ i → child g i j k l ≡ g i l +ℤ g j l
 child_row g i j k l e = ap (λ (f : ℕ → ℤ). f l) (replaced_here g i (λ p. g i p +ℤ g j p) k e)

@@ -159,4 +159,3 @@ pair_same n g h same = by (pair_or_none n h)
           least = λ k l lt ln. rw (same i j p.order p.range, same k l lt ln) (p.least k l lt ln);
           first = λ k l lt ln f. p.first k l lt ln (sym (same k l lt ln) ∙ f ∙ same i j p.order p.range);
         }) ∙ sym e
-

@@ -1,13 +1,11 @@
 -- The numbers of the root's cone as loops make them, and what they show.
-use Rattle.std.specs.Prelude.{◌≡◌, ◌≢◌, ◌⊎◌, ℕ, zero, suc, ◌<◌, ◌≤◌, ◌+◌, ◌^◌, ◌*◌, ◌-◌, max, min, ℤ, pos, ◌*ℤ◌, ◌<ℤ◌, nat_abs, cond, eqb, FitsSigned, List, [], length, slice_index_or, slice_set}
+use Rattle.std.specs.Prelude.{◌≡◌, ◌≢◌, ◌⊎◌, ℕ, ◌<◌, ◌≤◌, ◌+◌, ℤ, pos, FitsSigned, List, [], length, slice_index_or, slice_set}
 use Rattle.std.specs.Int.{w128}
-use Rattle.std.proofs.Common.{arith, to_z, of_z, sym, ◌∙◌, ap, ap₂, refl, inl, inr, subst, get_or-set_other, get_or-set_same, length-set}
+use Rattle.std.proofs.Common.{arith, to_z, of_z, sym, ◌∙◌, ap, ap₂, inl, inr, get_or-set_other, get_or-set_same, length-set}
 use Rattle.std.proofs.lemmas.Int.{ints, to_z-of_z}
 use Rattle.exact_forms.specs.Triangles.{triangle}
 use Rattle.exact_forms.proofs.Triangles.{place_decides}
 use Rattle.symmetric_matrix.specs.Symmetric.{Symmetric, entry, IsNarrow}
-use Rattle.unimodular_cone.specs.Cones.{Matrix, unit_vectors, WideEntry, Coordinate, Gram, IsOverLimit, StandsBefore, FitsLimits, IsFirstOverLimit}
-use Rattle.unimodular_cone.specs.Mediant.{HoldsFirstAt, wide_gram}
 use Rattle.unimodular_cone.specs.RootNumbers.{IsPartRowCopied, IsRowCopied, IsLowerOf, AreUnitRows}
 use Rattle.unimodular_cone.proofs.Fields.{place_below}
 

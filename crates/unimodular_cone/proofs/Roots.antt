@@ -1,9 +1,8 @@
 -- The root's cone shows the unit vectors and the matrix itself.
-use Rattle.std.specs.Prelude.{◌≡◌, ◌≢◌, ◌⊎◌, ℕ, ◌<◌, ◌≤◌, ◌+◌, ℤ, pos, ◌*ℤ◌, List, [], length, slice_index_or}
-use Rattle.std.proofs.Common.{arith, sym, ◌∙◌, ap, ap₂, refl, inl, inr, subst}
+use Rattle.std.specs.Prelude.{◌≡◌, ◌≢◌, ◌⊎◌, ℕ, ◌<◌, ◌≤◌, ℤ, pos, ◌*ℤ◌, List, [], slice_index_or}
+use Rattle.std.proofs.Common.{arith, sym, ◌∙◌, ap, ap₂, refl, inl, inr}
 use Rattle.commutative_ring.proofs.Laws.{one_mul_ℤ, zero_mul_ℤ, mul_zero_ℤ}
 use Rattle.commutative_ring.proofs.Expand.{times_one}
-use Rattle.exact_forms.specs.Triangles.{triangle}
 use Rattle.symmetric_matrix.proofs.Places.{entry_flip}
 use Rattle.exact_forms.specs.Forms.{bilinear}
 use Rattle.exact_forms.specs.Sums.{sum_to}
@@ -12,9 +11,9 @@ use Rattle.exact_forms.proofs.Slacks.{same_or_not, replaced_here, replaced_other
 use Rattle.symmetric_matrix.specs.Symmetric.{Symmetric, entry, IsSymmetricMatrix}
 use Rattle.unimodular_cone.specs.declared.cone.Cone.TheInside.{Inside}
 use Rattle.unimodular_cone.specs.declared.refusal.WideAt.{WideAt}
-use Rattle.unimodular_cone.specs.Cones.{Matrix, unit_vectors, gram, cone_from, cone_at, WideEntry, FitsLimits, IsFirstOver, IsFirstOverLimit}
-use Rattle.unimodular_cone.specs.ConeFields.{shown_of, IsCone}
-use Rattle.unimodular_cone.specs.Shown.{ShownCone, shown_gram, shown_coordinate, shown_generators, IsWithinLimits, IsConeOf, IsConeAt, IsFirstWideAt}
+use Rattle.unimodular_cone.specs.Cones.{Matrix, unit_vectors, gram, cone_from, FitsLimits, IsFirstOverLimit}
+use Rattle.unimodular_cone.specs.ConeFields.{shown_of}
+use Rattle.unimodular_cone.specs.Shown.{shown_gram, shown_generators, IsWithinLimits, IsConeAt, IsFirstWideAt}
 use Rattle.unimodular_cone.specs.RootNumbers.{IsLowerOf, AreUnitRows}
 use Rattle.unimodular_cone.proofs.Fields.{coordinate_shown, gram_shown}
 use Rattle.unimodular_cone.proofs.LimitsSame.{SameBelow, fits_same, first_over_same, same_back}

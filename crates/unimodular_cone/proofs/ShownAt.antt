@@ -1,17 +1,18 @@
 -- A cone that shows the cone at a path: its pair, its slacks, its values and its children are those of the path.
-use Rattle.std.specs.Prelude.{◌≡◌, ◌≢◌, ◌⊎◌, ℕ, suc, ◌<◌, ◌≤◌, ◌-◌, ℤ, pos, ◌+ℤ◌, ◌-ℤ◌, ◌≤ℤ◌, cond, eqb, Bool, true, false, Option, Some, None, [], ◌∷◌, ◌++◌, length}
-use Rattle.std.proofs.Common.{arith, sym, ◌∙◌, ap, ap₂, refl, inl, inr, subst}
+use Rattle.std.specs.Prelude.{◌≡◌, ◌≢◌, ◌⊎◌, ℕ, ◌<◌, ℤ, pos, ◌+ℤ◌, ◌-ℤ◌, ◌≤ℤ◌, cond, eqb, Bool, true, false, Some, None, Result, Ok, Err, IfOk, IfErr, [], ◌∷◌, ◌++◌}
+use Rattle.std.proofs.Common.{arith, sym, ◌∙◌, ap, ap₂, inl, inr, subst}
 use Rattle.exact_forms.specs.Slacks.{slack, shortfall, IsClosed}
 use Rattle.exact_forms.proofs.Sums.{sum_to_same}
 use Rattle.exact_forms.proofs.Slacks.{same_or_not}
 use Rattle.unimodular_cone.specs.declared.refusal.WideAt.{WideAt}
+use Rattle.unimodular_cone.specs.declared.refusal.ConeFail.{ConeFail}
+use Rattle.unimodular_cone.specs.declared.refusal.ConeFail.TheVariants.{Wide, OutOfMemory}
 use Rattle.unimodular_cone.specs.Paths.{Path}
-use Rattle.unimodular_cone.specs.Cones.{Matrix, Generators, gram, value, cone_at, pair_of, IsPair, child, child_on, child_gram, child_gram_on, Fits, IsFirstOver}
+use Rattle.unimodular_cone.specs.Cones.{Matrix, Generators, gram, value, cone_at, pair_of, IsPair, child, child_on, child_gram, child_gram_on, FitsLimits, Fits, IsFirstOver}
 use Rattle.unimodular_cone.specs.Tree.{CanSplit, IsClosedAt, IsFirstOverBelow}
-use Rattle.unimodular_cone.specs.Answer.{IsLeastDiagonal}
-use Rattle.unimodular_cone.specs.Shown.{ShownCone, shown_gram, shown_generators, IsConeOf, IsConeAt, IsChild, IsFirstWide, FitsOnSide, FitsOnBothSides, IsFirstWideBelow, NamesPair}
+use Rattle.unimodular_cone.specs.Shown.{ShownCone, shown_gram, shown_generators, IsWithinLimits, IsConeOf, IsConeAt, IsChild, IsFirstWide, FitsOnSide, FitsOnBothSides, IsFirstWideBelow, IsWideWhere, ReachesChild, NamesPair}
 use Rattle.unimodular_cone.proofs.Pairs.{pair_is, pair_same, none_is}
-use Rattle.unimodular_cone.proofs.Additions.{gram-child, child_gram_other, child_gram_row, child_gram_column, child_gram_square, child_row, child_row_other}
+use Rattle.unimodular_cone.proofs.Additions.{gram-child, child_row, child_row_other}
 use Rattle.unimodular_cone.proofs.Tree.{cone_at-side}
 use Rattle.unimodular_cone.proofs.LimitsSame.{SameBelow, fits_same, first_over_same}
 
@@ -79,6 +80,9 @@ module _ (n : ℕ) (q : Matrix) (path : Path) (c : ShownCone) (h : IsConeAt n q 
   pub closed_there : (b : ℤ) → IsClosedAt n q path b → IsClosed c.size (shown_gram c) b
   closed_there b closed = subst (λ (m : ℕ). IsClosed m (shown_gram c) b) (sym h.cone.size) (closed_same n (gram n q (cone_at n q path)) (shown_gram c) b (λ k l lk ll. sym (h.cone.gram_is k l lk ll)) closed)
 
+  pub fits_at : IsWithinLimits c → Fits n q (cone_at n q path)
+  fits_at w = fits_same n (shown_generators c) (cone_at n q path) (shown_gram c) (gram n q (cone_at n q path)) (record { generators = h.cone.generators; gram_is = h.cone.gram_is }) (subst (λ (m : ℕ). FitsLimits m (shown_generators c) (shown_gram c)) h.cone.size w.fits)
+
   pub value_at : (k : ℕ) → k < n → shown_gram c k k ≡ value n q (cone_at n q path) k
   value_at k lk = h.cone.gram_is k k lk lk
 
@@ -121,3 +125,10 @@ module _ (n : ℕ) (q : Matrix) (path : Path) (c : ShownCone) (h : IsConeAt n q 
           ⊎ (Fits n q (child (cone_at n q path) i j) × (at.path ≡ path ++ true ∷ []) × IsFirstOver n q (child (cone_at n q path) j i) at.entry)
       by (inl f) = inl (moved false f, wide_of n q (cone_at n q path) c h.cone i j (row_in i j p) (column_in i j p) false at f)
       by (inr (fits, f)) = inr (fits_of n q (cone_at n q path) c h.cone i j (row_in i j p) (column_in i j p) false fits, moved true f, wide_of n q (cone_at n q path) c h.cone i j (row_in i j p) (column_in i j p) true at f)
+
+-- ---- the child of a cone at its path
+pub reaches_child : (c : ShownCone) (i j : ℕ) (side : Bool) (result : Result ShownCone ConeFail)
+    → IfOk result (IsChild c i j side) → IfErr result (IsWideWhere (IsFirstWide c i j side)) → ReachesChild c i j side result
+reaches_child c i j side (Ok d) made wide q h p = child_at_path c.size q c.path c h i j side d p made
+reaches_child c i j side (Err (Wide at)) made wide q h p = record { path_is = wide.path_is; entry = wide_at_path c.size q c.path c h i j side at p wide }
+reaches_child c i j side (Err OutOfMemory) made wide q h p = wide

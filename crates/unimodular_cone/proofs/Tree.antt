@@ -116,3 +116,24 @@ wide_or_splits n q p i j e = by (fits_or_first_over n q (child (cone_at n q p) i
     by (inr (entry, over)) s = inl (p ++ false ∷ [], entry, record { i = i; j = j; pair = e; in_child = inl (refl, over) })
     by (inl f) (inr (entry, over)) = inl (p ++ true ∷ [], entry, record { i = i; j = j; pair = e; in_child = inr (f, refl, over) })
     by (inl f) (inl s) = inr (record { i = i; j = j; pair = e; first_fits = f; second_fits = s })
+
+-- each cone of the tree fits where the root does
+pub fits_in_tree : (n : ℕ) (q : Matrix) (d : ℕ) → Fits n q unit_vectors → (path : Path) → IsInTree n q d path → Fits n q (cone_at n q path)
+unfolding cone_from
+fits_in_tree n q d root path t = by (root_or_child path)
+  where
+    root_or_child : (p : Path) → (p ≡ []) ⊎ ((a : Path) × (side : Bool) × (p ≡ a ++ side ∷ []))
+    root_or_child [] = inl refl
+    root_or_child (s ∷ p) = last (root_or_child p)
+      where
+        last : ((p ≡ []) ⊎ ((a : Path) × (side : Bool) × (p ≡ a ++ side ∷ []))) → (s ∷ p ≡ []) ⊎ ((a : Path) × (side : Bool) × (s ∷ p ≡ a ++ side ∷ []))
+        last (inl e) = inr ([], s, ap (λ (w : Path). s ∷ w) e)
+        last (inr (a, side, e)) = inr (s ∷ a, side, ap (λ (w : Path). s ∷ w) e)
+
+    child_fits : (a : Path) (side : Bool) (can : CanSplit n q (cone_at n q a)) → Fits n q (cone_at n q (a ++ side ∷ []))
+    child_fits a false can = subst (λ (v : Generators). Fits n q v) (sym (cone_at-side n q a false (Some (can.i, can.j)) can.pair)) can.first_fits
+    child_fits a true can = subst (λ (v : Generators). Fits n q v) (sym (cone_at-side n q a true (Some (can.i, can.j)) can.pair)) can.second_fits
+
+    by : ((path ≡ []) ⊎ ((a : Path) × (side : Bool) × (path ≡ a ++ side ∷ []))) → Fits n q (cone_at n q path)
+    by (inl e) = subst (λ (p : Path). Fits n q (cone_at n q p)) (sym e) root
+    by (inr (a, side, e)) = subst (λ (p : Path). Fits n q (cone_at n q p)) (sym e) (child_fits a side (t.above a (side, [], e)))

@@ -15,12 +15,14 @@
 --     IsFirstWideAt n q path at   the first entry over its limit in the cone that the path reaches, with the path
 --     IsReachable n q path        each cone above the path has a pair and fits
 --     IsWideWhere P fail          the failure is an entry over its limit with P, and not want of memory
+--     ReachesChild c i j side r   at a cone at its path and its pair, the answer r is the cone at the child's path, or its
+--                                 first entry over its limit
 --     NamesPair c pair            the pair of c, from 1; None where no entry beside the diagonal is negative
 --     IsNext c side d             d shows the child on a side of the pair
 --     IsFirstWideNext c side at   the first entry of it over its limit
 --
 -- Generators, places, rows and columns count from 0.
-use Rattle.std.specs.Prelude.{ℕ, ℤ, pos, ◌≤ℤ◌, ◌<◌, ◌≤◌, ◌-◌, ◌≡◌, ◌≢◌, ◌⊎◌, Bool, true, false, Option, Some, None, List, [], ◌∷◌, ◌++◌, length, slice_index_or}
+use Rattle.std.specs.Prelude.{ℕ, ℤ, pos, ◌≤ℤ◌, ◌<◌, ◌≤◌, ◌-◌, ◌≡◌, ◌≢◌, ◌⊎◌, Bool, true, false, Option, Some, None, Result, MatchResult, List, [], ◌∷◌, ◌++◌, length, slice_index_or}
 use Rattle.exact_forms.specs.Triangles.{entry_in}
 use Rattle.unimodular_cone.specs.declared.refusal.WideAt.{WideAt}
 use Rattle.unimodular_cone.specs.declared.refusal.ConeFail.{ConeFail}
@@ -92,6 +94,12 @@ pub record IsFirstWideAt (n : ℕ) (q : Matrix) (path : Path) (at : WideAt) : Ty
 pub record IsReachable (n : ℕ) (q : Matrix) (path : Path) : Type 0 where
   pub pair : (a : Path) → IsAbove a path → pair_of n (gram n q (cone_at n q a)) ≢ None
   pub fits : (a : Path) → IsAbove a path → Fits n q (cone_at n q a)
+
+-- where c is the cone at its path and (i, j) its pair, the child is the cone at the child's path, or that one's first
+-- entry over its limit is the answer
+abbrev pub ReachesChild : ShownCone → ℕ → ℕ → Bool → Result ShownCone ConeFail → Type 0
+ReachesChild c i j side result = (q : Matrix) → IsConeAt c.size q c.path c → IsPair c.size (shown_gram c) i j
+    → MatchResult result (IsConeAt c.size q (c.path ++ side ∷ [])) (IsWideWhere (IsFirstWideAt c.size q (c.path ++ side ∷ [])))
 
 -- ---- the pair
 abbrev pub NamesPair : ShownCone → Option (ℕ × ℕ) → Type 0

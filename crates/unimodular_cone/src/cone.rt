@@ -2,11 +2,8 @@
 
 ghost use Rattle.std.specs.Prelude.{◌≡◌, ◌≢◌, ◌≤◌, ◌<◌, ◌-◌, [], length, nat_eq, None, IfOk, IfErr};
 ghost use Rattle.symmetric_matrix.specs.Symmetric.{entry};
-ghost use Rattle.unimodular_cone.specs.Shown.{IsWithinLimits, IsConeAt, IsChild, IsFirstWide, IsFirstWideAt, IsReachable, IsWideWhere, NamesPair, IsNext, IsFirstWideNext};
+ghost use Rattle.unimodular_cone.specs.Shown.{IsWithinLimits, IsConeAt, IsChild, IsFirstWide, IsFirstWideAt, IsReachable, IsWideWhere, NamesPair, ReachesChild, IsNext, IsFirstWideNext};
 ghost use Rattle.unimodular_cone.specs.Replacement.{IsChildWith, IsFirstWideWith, IsRowSet};
-
-use std::marker::Model;
-use symmetric_matrix::SymInt;
 
 use crate::cone_read::ConeRead;
 use crate::mediant::{first_wide, mediant_coordinates, mediant_row};
@@ -15,6 +12,8 @@ use crate::path::Path;
 use crate::place::place_of;
 use crate::refusal::{ConeFail, WideAt};
 use crate::root_numbers::{first_wide_of, lower_of, unit_rows};
+use std::marker::Model;
+use symmetric_matrix::SymInt;
 
 /// A cone: its path, n generators of n coordinates each, and their Gram matrix, all within their limits.
 ///
@@ -95,12 +94,26 @@ pub fn child(c: &Cone, i: u8, j: u8, side: u8) -> Result<Cone, ConeFail>
     ensures made { IfOk result (IsChild c.now (i - 1) (j - 1) (nat_eq side 1)) }
     ensures fits { IfOk result IsWithinLimits }
     ensures wide { IfErr result (IsWideWhere (IsFirstWide c.now (i - 1) (j - 1) (nat_eq side 1))) }
+    ensures reached { ReachesChild c.now (i - 1) (j - 1) (nat_eq side 1) result }
+{
+    child_on(c, i - 1, j - 1, side)
+}
+
+/// The child on a side of two generators that count from 0.
+fn child_on(c: &Cone, i: u8, j: u8, side: u8) -> Result<Cone, ConeFail>
+    requires order { i < j }
+    requires last { j < c.now.size }
+    requires digit { side < 2 }
+    requires room { length c.now.path < 200 }
+    ensures made { IfOk result (IsChild c.now i j (nat_eq side 1)) }
+    ensures fits { IfOk result IsWithinLimits }
+    ensures wide { IfErr result (IsWideWhere (IsFirstWide c.now i j (nat_eq side 1))) }
 {
     let path = c.path.child(side);
     if side == 0 {
-        child_with(c, i - 1, j - 1, path)
+        child_with(c, i, j, path)
     } else {
-        child_with(c, j - 1, i - 1, path)
+        child_with(c, j, i, path)
     }
 }
 
@@ -149,16 +162,15 @@ fn child_with(c: &Cone, r: u8, s: u8, path: Path) -> Result<Cone, ConeFail>
     if let Some(entry) = first_wide(c, &coordinates, &row, r, s) {
         return Err(ConeFail::Wide(WideAt { path, entry }));
     }
-    let mut generators = c.generators;
-    generators[usize::from(r)] = coordinates;
-    let mut gram = c.gram;
-    set_row(&mut gram, &row, r, c.n);
-    Ok(Cone {
+    let mut made = Cone {
         n: c.n,
         path,
-        gram,
-        generators,
-    })
+        gram: c.gram,
+        generators: c.generators,
+    };
+    made.generators[usize::from(r)] = coordinates;
+    set_row(&mut made.gram, &row, r, c.n);
+    Ok(made)
 }
 
 /// Writes row and column r of a lower triangle of n rows, counted from 0.

@@ -7,54 +7,45 @@ ghost use Rattle.unimodular_cone.specs.Theorems.{ChildrenCover, ClosedBounds, At
 /// least the j-th.
 pub fn children_cover()
     ensures { ChildrenCover }
-{
-}
+{}
 
 /// In a cone that is closed at b, each nonzero nonnegative integer combination has a value of at least b, with equality
 /// at generators alone, where b is at least 1. Where b is 0, no value is negative.
 pub fn closed_bounds()
     ensures { ClosedBounds }
-{
-}
+{}
 
 /// A search has at most one final bound.
 pub fn at_most_one_final_bound()
     ensures { AtMostOneFinalBound }
-{
-}
+{}
 
 /// A search has at most one first low path.
 pub fn at_most_one_first_low()
     ensures { AtMostOneFirstLow }
-{
-}
+{}
 
 /// A search has at most one first open path.
 pub fn at_most_one_first_open()
     ensures { AtMostOneFirstOpen }
-{
-}
+{}
 
 /// A search has at most one answer.
 pub fn at_most_one_answer()
     ensures { AtMostOneAnswer }
-{
-}
+{}
 
 /// The answer Found carries the copositive minimum and exactly its minimal vectors.
 pub fn found_is_minimum()
     ensures { FoundIsMinimum }
-{
-}
+{}
 
 /// The answer Copositive is given of copositive matrices alone.
 pub fn copositive_holds()
     ensures { CopositiveHolds }
-{
-}
+{}
 
 /// The answer Low carries a vector with the value that it carries.
 pub fn low_has_its_value()
     ensures { LowHasItsValue }
-{
-}
+{}

@@ -13,15 +13,17 @@ mod path;
 mod place;
 mod refusal;
 mod root_numbers;
+#[cfg(test)]
+mod tests;
 
 pub use bound_test::{closed, least_value};
 pub use cone::{Cone, at_path, child, root};
-pub use mediant::children_fit;
 pub use cone_read::ConeRead;
 pub use law::{
     at_most_one_answer, at_most_one_final_bound, at_most_one_first_low, at_most_one_first_open,
     children_cover, closed_bounds, copositive_holds, found_is_minimum, low_has_its_value,
 };
+pub use mediant::children_fit;
 pub use mode::Mode;
 pub use pair_rule::pair;
 pub use path::Path;

@@ -99,7 +99,13 @@ pub fn gram_entry(r: u8, k: u8) -> WideEntry
 }
 
 /// The first entry over its limit in the child in which the mediant takes the place of generator r.
-pub fn first_wide<C: ConeRead>(c: &C, coordinates: &[u64; 8], row: &[i128; 8], r: u8, s: u8) -> Option<WideEntry>
+pub fn first_wide<C: ConeRead>(
+    c: &C,
+    coordinates: &[u64; 8],
+    row: &[i128; 8],
+    r: u8,
+    s: u8,
+) -> Option<WideEntry>
     requires first { r < (C.cone c.now).size }
     requires second { s < (C.cone c.now).size }
     requires coordinates { IsMediantOf (C.cone c.now) r s coordinates.now }
@@ -151,5 +157,11 @@ fn wide_on<C: ConeRead>(c: &C, r: u8, s: u8) -> Option<WideEntry>
     requires apart { r ≢ s }
     ensures { MatchOption result (FitsWith (C.cone c.now) r s) (IsFirstOverWith (C.cone c.now) r s) }
 {
-    first_wide(c, &mediant_coordinates(c, r, s), &mediant_row(c, r, s), r, s)
+    first_wide(
+        c,
+        &mediant_coordinates(c, r, s),
+        &mediant_row(c, r, s),
+        r,
+        s,
+    )
 }

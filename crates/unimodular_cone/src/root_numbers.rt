@@ -6,11 +6,10 @@ ghost use Rattle.unimodular_cone.specs.Cones.{unit_vectors, FitsLimits, IsFirstO
 ghost use Rattle.unimodular_cone.specs.Mediant.{IsFirstBelow};
 ghost use Rattle.unimodular_cone.specs.RootNumbers.{IsLowerOf, IsRowCopied, AreUnitRows};
 
-use symmetric_matrix::SymInt;
-
 use crate::mediant::gram_entry;
 use crate::place::place_of;
 use crate::refusal::WideEntry;
+use symmetric_matrix::SymInt;
 
 /// The first entry of a row, up to the diagonal, that is over the limit of Gram entries. Rows and columns count from 0.
 fn first_wide_in_row(q: &SymInt, row: u8) -> Option<u8>

@@ -1,5 +1,4 @@
-use Rattle.std.proofs.Common.{◌≡◌, ◌+◌, ◌-◌, ◌++◌, ◌∙◌, ap, sym, refl, ℕ, arith, map, append-nil}
-use Rattle.symmetric_matrix.specs.StartVectors.{run_vector, runs_from, late_runs}
+use Rattle.std.proofs.Common.{◌≡◌, ◌+◌, ◌-◌, ◌∙◌, refl, arith, append-nil}
 use Rattle.symmetric_matrix.proofs.Runs.{runs_from_none, late_runs_more, can_follow_next, next_appended}
 use Rattle.symmetric_matrix.proofs.start.push_runs.Goals as goal
 

@@ -1,5 +1,5 @@
-use Rattle.std.proofs.Common.{◌≡◌, length, ◌∙◌, ap, sym, ℕ, arith, List, map, subst, refl}
-use Rattle.symmetric_matrix.specs.StartVectors.{run_vector, late_runs, start_list, ListsStartVectors}
+use Rattle.std.proofs.Common.{◌≡◌, length, ◌∙◌, ap, sym, ℕ, arith, map, subst, refl}
+use Rattle.symmetric_matrix.specs.StartVectors.{run_vector, late_runs, ListsStartVectors}
 use Rattle.symmetric_matrix.proofs.Runs.{late_runs_none, start_list_is, lists_start_vectors, length-start_list}
 use Rattle.symmetric_matrix.proofs.start.start_vectors.Goals as goal
 

@@ -1,4 +1,4 @@
-use Rattle.std.proofs.Common.{◌≡◌, ◌∙◌, ap, sym, ℕ, ◌<◌, ◌≤◌, ◌≢◌, arith, length, length-set, take}
+use Rattle.std.proofs.Common.{◌≡◌, ◌∙◌, ap, ℕ, arith, length-set, take}
 use Rattle.symmetric_matrix.specs.StartVectors.{Run, run_vector}
 use Rattle.symmetric_matrix.proofs.Runs.{ones_more, zero_stays, run_vector_filled, run_vector_is_vector}
 use Rattle.symmetric_matrix.proofs.start.vector_of_run.Goals as goal

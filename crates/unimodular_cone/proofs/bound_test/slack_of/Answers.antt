@@ -23,9 +23,9 @@ loop-j-preserved g c =
     let small : nat_abs (shown_gram (g.C.ConeRead.cone c.args.c.now) c.args.i c.loop-j.j) ≤ 2 ^ 100 = gram_within _ _ _ c.requires.fits (omega arith) (omega arith) in
     let back = read_back _ _ c.entry-beside.ensures small in
     elim c.if-j-i.branch [
-      then-j-i+then-beside-lt0 w ↦ part_added_read _ _ _ _ _ _ c.loop-j.invariant few back small w.if-j-i.true w.if-beside-lt0.true w.left-is
+      | then-j-i+then-beside-lt0 w ↦ part_added_read _ _ _ _ _ _ c.loop-j.invariant few back small w.if-j-i.true w.if-beside-lt0.true w.left-is
       | else-j-i w ↦ part_kept_read _ _ _ _ _ _ c.loop-j.invariant back (elim w.else-j-i.branch [
-        else-j-i-via-then-j-i+else-beside-lt0 v ↦ inr v.if-beside-lt0.false
+        | else-j-i-via-then-j-i+else-beside-lt0 v ↦ inr v.if-beside-lt0.false
         | else-j-i-via-else-j-i v ↦ inl v.if-j-i.false
       ]) w.left-is
     ]

@@ -1,8 +1,7 @@
-use Rattle.std.specs.Prelude.{◌≡◌, ◌<◌, Bool, ℕ, nat_eq}
-use Rattle.std.proofs.Common.{arith, ap, subst}
+use Rattle.std.specs.Prelude.{ℕ, nat_eq}
+use Rattle.std.proofs.Common.{arith, subst}
 use Rattle.std.proofs.lemmas.Result.{err_from_is_err_and}
 use Rattle.symmetric_matrix.specs.Symmetric.{entry}
-use Rattle.unimodular_cone.specs.Paths.{digit_of, digit_at}
 use Rattle.unimodular_cone.specs.Shown.{IsNext, IsWideWhere, IsFirstWideNext}
 use Rattle.unimodular_cone.proofs.Ways.{wide_at_root, has_pair, next_at, wide_next}
 use Rattle.unimodular_cone.proofs.cone.at_path.Goals as goal

@@ -1,5 +1,3 @@
-use Rattle.std.specs.Prelude.{◌≡◌, []}
-use Rattle.symmetric_matrix.specs.Symmetric.{IsSymmetricMatrix}
 use Rattle.unimodular_cone.proofs.Roots.{root_wide, root_is_cone, root_is_within}
 use Rattle.unimodular_cone.proofs.cone.root.Goals as goal
 

@@ -1,4 +1,4 @@
-use Rattle.std.specs.Prelude.{◌≡◌, ◌+◌, ◌-◌, ℕ, length}
+use Rattle.std.specs.Prelude.{◌≡◌, ◌+◌, ◌-◌, ℕ}
 use Rattle.std.proofs.Common.{arith, ap₂, ◌∙◌}
 use Rattle.symmetric_matrix.specs.Symmetric.{entry}
 use Rattle.unimodular_cone.proofs.RootCopies.{row_copied_more}

@@ -1,6 +1,6 @@
-use Rattle.std.proofs.Common.{◌≡◌, rules, arith, ap, sym, ◌∙◌, subst, ℤ, to_z-of_z, to_z, of_z, SFits}
+use Rattle.std.proofs.Common.{rules, arith, ap, ◌∙◌, subst, to_z-of_z, SFits}
 use mir.Syntax.{w128}
-use Rattle.symmetric_matrix.specs.Symmetric.{Symmetric, IsNarrow, IsSymmetricMatrix}
+use Rattle.symmetric_matrix.specs.Symmetric.{Symmetric, IsSymmetricMatrix}
 use Rattle.symmetric_matrix.proofs.Places.{place_in_range, read_is_entry, entry_narrow}
 use Rattle.symmetric_matrix.proofs.matrix.SymInt.get.Goals as goal
 

@@ -1,0 +1,55 @@
+-- The entries of a matrix that was cleared of its denominators.
+use Rattle.std.specs.Prelude.{◌≡◌, ℕ, ◌+◌, ◌<◌, ℤ, pos, nat_abs, ◌≤ℤ◌, nat_lt, Bool, true, false, if◌then◌else◌, List, map, slice_index_or, Ok, Some, None}
+use Rattle.std.proofs.Common.{sym, ap, ap₂, ◌∙◌, subst, arith}
+use Rattle.std.proofs.Math.ListN.{get_or-map}
+use Rattle.std.proofs.lemmas.Int.{ints}
+use Rattle.exact_forms.specs.Rational.{Rational, ratio, whole}
+use Rattle.exact_forms.specs.Triangles.{triangle, entry_in}
+use Rattle.exact_forms.proofs.Rational.{ratio_same}
+use Rattle.symmetric_matrix.specs.Owed.{first_owed, answer}
+use Rattle.symmetric_matrix.specs.Symmetric.{Symmetric, entry}
+use Rattle.matrix_text.specs.RationalMatrix.{RationalMatrix, rational_entry}
+use Rattle.matrix_text.specs.Clearing.{is_placed_owed, clear_ops, cleared_of, least_denominator, IsCleared}
+use Rattle.cpfactor_top.specs.StartWeighing.{start_ops, is_weight_owed}
+use Rattle.cpfactor_top.specs.Answers.{IsClearable, IsWeighable, whole_of}
+use Rattle.cpfactor_top.specs.declared.start_weight.WideWeight.{WideWeight}
+use Rattle.cpfactor_top.proofs.AnswerLaws.{none_of_ok}
+
+entry_in-map : {A B : Type 0} (f : A → B) (none : A) (xs : List A) (i j : ℕ) → entry_in (f none) (map f xs) i j ≡ f (entry_in none xs i j)
+unfolding entry_in
+entry_in-map f none xs i j = by (nat_lt i j)
+  where
+    by : (b : Bool) → (if b then slice_index_or (map f xs) (triangle j + i) (f none) else slice_index_or (map f xs) (triangle i + j) (f none)) ≡ f (if b then slice_index_or xs (triangle j + i) none else slice_index_or xs (triangle i + j) none)
+    by true = get_or-map f xs (triangle j + i) none
+    by false = get_or-map f xs (triangle i + j) none
+
+zero_over : (d : ℕ) → 0 < d → whole (pos 0) ≡ ratio (pos 0) d
+unfolding whole
+zero_over d positive = ratio_same (pos 0) (pos 0) 1 d (omega arith) positive (omega (arith, ints))
+
+pub cleared_entry : (a : RationalMatrix) (s : Symmetric) (d : ℕ) → IsCleared a s d → (i j : ℕ) → rational_entry a i j ≡ ratio (entry s i j) d
+unfolding rational_entry entry
+cleared_entry a s d is i j =
+    ap₂ (λ (none : Rational) (xs : List Rational). entry_in none xs i j) (zero_over d is.denominator.positive) (sym is.entries)
+    ∙ entry_in-map (λ (z : ℤ). ratio z d) (pos 0) s.lower i j
+
+pub is_weighable : (a : RationalMatrix) (s : Symmetric) (d : ℤ) → answer is_placed_owed (clear_ops a) (cleared_of a) ≡ Ok (s, d) → first_owed is_weight_owed (start_ops s) ≡ None → IsWeighable a
+is_weighable a s d h fits =
+    let clear = none_of_ok is_placed_owed (clear_ops a) (cleared_of a) (s, d) h in
+    (clear.0, subst (λ (q : Symmetric). first_owed is_weight_owed (start_ops q) ≡ None) (sym (ap (λ (p : Symmetric × ℤ). p.0) clear.1)) fits)
+
+pub start_owed : (a : RationalMatrix) (s : Symmetric) (d : ℤ) (w : WideWeight) → answer is_placed_owed (clear_ops a) (cleared_of a) ≡ Ok (s, d) → first_owed is_weight_owed (start_ops s) ≡ Some w
+    → IsClearable a × (first_owed is_weight_owed (start_ops (whole_of a)) ≡ Some w)
+start_owed a s d w h owed =
+    let clear = none_of_ok is_placed_owed (clear_ops a) (cleared_of a) (s, d) h in
+    (clear.0, subst (λ (q : Symmetric). first_owed is_weight_owed (start_ops q) ≡ Some w) (sym (ap (λ (p : Symmetric × ℤ). p.0) clear.1)) owed)
+
+at_least_one : (n : ℕ) → 0 < n → pos 1 ≤ℤ pos n
+at_least_one n h = omega (arith, ints)
+
+pub cleared_positive : (a : RationalMatrix) (s : Symmetric) (d : ℤ) → answer is_placed_owed (clear_ops a) (cleared_of a) ≡ Ok (s, d) → IsCleared a s (nat_abs d) → pos 1 ≤ℤ d
+unfolding cleared_of
+cleared_positive a s d h is =
+    let clear = none_of_ok is_placed_owed (clear_ops a) (cleared_of a) (s, d) h in
+    let known : pos (least_denominator a) ≡ d = ap (λ (p : Symmetric × ℤ). p.1) clear.1 in
+    subst (λ (z : ℤ). pos 1 ≤ℤ z) known (at_least_one (least_denominator a) (subst (λ (z : ℤ). 0 < nat_abs z) (sym known) is.denominator.positive))

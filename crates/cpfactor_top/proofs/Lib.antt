@@ -1,0 +1,13 @@
+pub mod LineLemmas
+pub mod Endings
+pub mod Fronts
+pub mod TermLines
+pub mod StartTerms
+pub mod StartWeighing
+pub mod AnswerLaws
+pub mod ClearedEntries
+pub mod WordsAnswers
+pub mod FaultPlaces
+pub mod NearFaults
+pub mod OneWay
+pub mod Solve

@@ -1,0 +1,57 @@
+-- The commands, and what a command line asks for.
+--
+--     Request                  a command with what its words say; file names are bytes
+--     CommandRow               a command: its name, the forms of its plain arguments, its options, and its request
+--     commands                 the commands of the program
+--     reading words            the request, or the position of the first word that cannot be read
+--     IsCommandLine words r    the words are a command line that asks for r
+--     IsUsageAt words p        they are none, and the first fault is at position p, from 1
+--     IsReadOneWay words       exactly one of the two holds, for exactly one value
+--
+-- Options and plain arguments come in any order. An unknown command is at fault at position 1, an unknown or
+-- repeated option and a surplus plain argument at their own, a number out of form at the number's, and a missing
+-- word at the position after the last.
+use Rattle.std.specs.Prelude.{◌≡◌, ℕ, ◌+◌, List, [], ◌∷◌, Option, Some, None, Result, Ok, Err, ◌⊎◌, find, codes}
+use Rattle.std.specs.Str.{bytes_eq}
+use Rattle.cpfactor_top.specs.Reading.{Form, FileName, OptionRow, plain_argument, fault_place}
+
+pub data Request : Type 0 where
+  Solve : List ℕ → Request
+
+pub record CommandRow : Type 0 where
+  pub name : List ℕ
+  pub plain : List Form
+  pub options : List OptionRow
+  pub request : List (List ℕ) → Request
+
+-- solve FILE
+abbrev pub solve : CommandRow
+solve = record { name = codes "solve"; plain = FileName ∷ []; options = []; request = λ words. Solve (plain_argument [] words 0) }
+
+abbrev pub commands : List CommandRow
+commands = solve ∷ []
+
+abbrev pub request_or_fault : Option ℕ → Request → Result Request ℕ
+request_or_fault None request = Ok request
+request_or_fault (Some place) request = Err (place + 2)
+
+unfoldable pub read_as : Option CommandRow → List (List ℕ) → Result Request ℕ
+read_as None arguments = Err 1
+read_as (Some row) arguments = request_or_fault (fault_place row.plain row.options arguments) (row.request arguments)
+
+unfoldable pub reading : List (List ℕ) → Result Request ℕ
+reading [] = Err 1
+reading (name ∷ arguments) = read_as (find (λ row. bytes_eq name row.name) commands) arguments
+
+abbrev pub IsCommandLine : List (List ℕ) → Request → Type 0
+IsCommandLine words request = reading words ≡ Ok request
+
+abbrev pub IsUsageAt : List (List ℕ) → ℕ → Type 0
+IsUsageAt words position = reading words ≡ Err position
+
+-- the words are a command line for one request, or at fault at one position, and not both
+pub record IsReadOneWay (words : List (List ℕ)) : Type 0 where
+  pub some : ((request : Request) × IsCommandLine words request) ⊎ ((position : ℕ) × IsUsageAt words position)
+  pub not_both : (request : Request) (position : ℕ) → IsCommandLine words request → IsUsageAt words position → ⊥
+  pub one_request : (r s : Request) → IsCommandLine words r → IsCommandLine words s → r ≡ s
+  pub one_position : (p q : ℕ) → IsUsageAt words p → IsUsageAt words q → p ≡ q

@@ -1,0 +1,10 @@
+pub mod Ending
+pub mod Lines
+pub mod Texts
+pub mod Endings
+pub mod StartCone
+pub mod StartWeighing
+pub mod Answers
+pub mod Reading
+pub mod Commands
+pub mod Requests

@@ -1,0 +1,77 @@
+-- The texts of answers, as bytes. Each line ends with a line feed.
+--
+--     fraction_text w              `p/q` in lowest terms, also where q is 1
+--     term_line term               the line of a term: its weight, then its vector's coordinates
+--     factorization_text n terms   the line `factored n k`, then the lines of the k terms
+--     refusal words                the line `refused ..`
+--     fault_text fault             `refused text KIND LINE`
+--     owed_text owed               `refused overflow PLACE KIND LEFT RIGHT`
+use Rattle.std.specs.Prelude.{ℕ, List, [], ◌∷◌, ◌++◌, length, map, codes}
+use Rattle.std.specs.List.{flat_map}
+use Rattle.std.specs.Fmt.{decimal, signed_decimal}
+use Rattle.exact_forms.specs.Rational.{Rational}
+use Rattle.exact_forms.specs.Factors.{WeightedVector}
+use Rattle.symmetric_matrix.specs.declared.operation.IntKind.{IntKind}
+use Rattle.symmetric_matrix.specs.declared.operation.IntKind.TheVariants.{Mul, Add}
+use Rattle.symmetric_matrix.specs.declared.operation.IntOp.{IntOp}
+use Rattle.matrix_text.specs.declared.fault.TextFault.{TextFault}
+use Rattle.matrix_text.specs.declared.fault.TextKind.{TextKind}
+use Rattle.matrix_text.specs.declared.fault.TextKind.TheVariants.{NotAscii, NoHeader, BadVersion, BadDimension, MissingRow, ShortRow, LongRow, BadNumber, ZeroDenominator, NumberTooLarge, NotSymmetric, ExtraLine}
+use Rattle.cpfactor_top.specs.declared.ended.Owed.{Owed}
+use Rattle.cpfactor_top.specs.declared.ended.Owed.TheVariants.{Clear, Start}
+use Rattle.cpfactor_top.specs.Lines.{line}
+
+abbrev pub fraction_text : Rational → List ℕ
+fraction_text w = signed_decimal w.num ++ 47 ∷ decimal w.den
+
+unfoldable pub term_line : WeightedVector → List ℕ
+term_line term = line (fraction_text term.weight ∷ map decimal term.vector)
+
+unfoldable pub factorization_text : ℕ → List WeightedVector → List ℕ
+factorization_text n terms = line (codes "factored" ∷ decimal n ∷ decimal (length terms) ∷ []) ++ flat_map term_line terms
+
+abbrev pub refusal : List (List ℕ) → List ℕ
+refusal words = line (codes "refused" ∷ words)
+
+abbrev pub usage_text : ℕ → List ℕ
+usage_text position = refusal (codes "usage" ∷ decimal position ∷ [])
+
+abbrev pub too_long_text : List ℕ
+too_long_text = refusal (codes "text" ∷ codes "TooLong" ∷ [])
+
+abbrev pub fault_word : TextKind → List ℕ
+fault_word NotAscii = codes "NotAscii"
+fault_word NoHeader = codes "NoHeader"
+fault_word BadVersion = codes "BadVersion"
+fault_word BadDimension = codes "BadDimension"
+fault_word MissingRow = codes "MissingRow"
+fault_word ShortRow = codes "ShortRow"
+fault_word LongRow = codes "LongRow"
+fault_word BadNumber = codes "BadNumber"
+fault_word ZeroDenominator = codes "ZeroDenominator"
+fault_word NumberTooLarge = codes "NumberTooLarge"
+fault_word NotSymmetric = codes "NotSymmetric"
+fault_word ExtraLine = codes "ExtraLine"
+
+abbrev pub fault_text : TextFault → List ℕ
+fault_text fault = refusal (codes "text" ∷ fault_word fault.kind ∷ decimal fault.line ∷ [])
+
+abbrev pub operation_word : IntKind → List ℕ
+operation_word Mul = codes "Mul"
+operation_word Add = codes "Add"
+
+abbrev pub overflow_text : List ℕ → IntOp → List ℕ
+overflow_text place op = refusal (codes "overflow" ∷ place ∷ operation_word op.kind ∷ signed_decimal op.left ∷ signed_decimal op.right ∷ [])
+
+abbrev pub owed_text : Owed → List ℕ
+owed_text (Clear row column op) = overflow_text (codes "Clear") op
+owed_text (Start vector op) = overflow_text (codes "Start") op
+
+abbrev pub outside_text : List ℕ
+outside_text = refusal (codes "not-yet" ∷ codes "outside" ∷ [])
+
+abbrev pub read_text : List ℕ
+read_text = refusal (codes "read" ∷ [])
+
+abbrev pub memory_text : List ℕ
+memory_text = refusal (codes "memory" ∷ [])

@@ -1,0 +1,126 @@
+//! How a command ends: its status and its cause.
+
+ghost use Rattle.std.specs.Prelude.{◌≡◌};
+ghost use Rattle.cpfactor_top.specs.Ending.{status_number, status_of, cause_after};
+
+use cp_outside::PutEnd;
+use matrix_text::TextFault;
+use symmetric_matrix::IntOp;
+
+/// The kind of an ending, which the program's exit status shows.
+#[derive(Clone, Copy, Debug, PartialEq, Eq)]
+pub enum Status {
+    /// A verdict was written.
+    Done,
+    /// The command line is faulty.
+    Usage,
+    /// The matrix text is refused.
+    Text,
+    /// A file could not be read.
+    Read,
+    /// The sink failed.
+    Write,
+    /// Memory was wanting.
+    Memory,
+    /// An operation's result doesn't fit.
+    Overflow,
+    /// The input is good, and what it needs isn't built yet.
+    NotYet,
+}
+
+impl Status {
+    /// The exit status.
+    pub fn number(self) -> u8
+        ensures { result ≡ status_number self }
+    {
+        match self {
+            Status::Done => 0,
+            Status::Usage => 2,
+            Status::Text => 3,
+            Status::Overflow => 6,
+            Status::Read => 7,
+            Status::Write => 8,
+            Status::Memory => 9,
+            Status::NotYet => 12,
+        }
+    }
+}
+
+/// What isn't built yet.
+#[derive(Clone, Copy, Debug, PartialEq, Eq)]
+pub enum Lacking {
+    /// The matrix lies outside the start cone.
+    Outside,
+}
+
+/// An operation whose exact result doesn't fit: its magnitude is over 2^127 - 1.
+#[derive(Clone, Copy, Debug, PartialEq, Eq)]
+pub enum Owed {
+    /// In clearing the matrix of its denominators, at the entry in this row and column, counted from 1.
+    Clear { row: u8, column: u8, op: IntOp },
+    /// In the weight of the start vector of this index, counted from 0.
+    Start { vector: usize, op: IntOp },
+}
+
+/// Why a command ended as it did.
+#[derive(Clone, Copy, Debug, PartialEq, Eq)]
+pub enum Cause {
+    /// The verdict was written.
+    Fine,
+    /// The word at this position, counted from 1, can't be read.
+    Usage { position: u32 },
+    /// The matrix file is longer than its limit.
+    TooLong,
+    /// The matrix text has this first fault.
+    MatrixFault(TextFault),
+    /// The result of this operation doesn't fit.
+    Overflow(Owed),
+    /// The input needs what isn't built yet.
+    NotYet { what: Lacking },
+    /// Reading the file that the words name failed.
+    ReadFault,
+    /// The sink failed.
+    WriteFault,
+    /// Memory was wanting.
+    Memory,
+}
+
+/// How a command ended.
+#[derive(Clone, Copy, Debug, PartialEq, Eq)]
+pub struct Ended {
+    pub status: Status,
+    pub cause: Cause,
+}
+
+impl Ended {
+    /// The ending with this cause.
+    pub fn by(cause: Cause) -> Ended
+        ensures cause { result.cause ≡ cause }
+        ensures status { result.status ≡ status_of cause }
+    {
+        let status = match cause {
+            Cause::Fine => Status::Done,
+            Cause::Usage { .. } => Status::Usage,
+            Cause::TooLong => Status::Text,
+            Cause::MatrixFault(_) => Status::Text,
+            Cause::Overflow(_) => Status::Overflow,
+            Cause::NotYet { .. } => Status::NotYet,
+            Cause::ReadFault => Status::Read,
+            Cause::WriteFault => Status::Write,
+            Cause::Memory => Status::Memory,
+        };
+        Ended { status, cause }
+    }
+
+    /// The ending with this cause after the text of its answer was put, up to this end.
+    pub fn after(end: PutEnd, cause: Cause) -> Ended
+        ensures cause { result.cause ≡ cause_after end cause }
+        ensures status { result.status ≡ status_of result.cause }
+    {
+        match end {
+            PutEnd::Done => Ended::by(cause),
+            PutEnd::Failed => Ended::by(Cause::WriteFault),
+            PutEnd::OutOfMemory => Ended::by(Cause::Memory),
+        }
+    }
+}

@@ -1,0 +1,68 @@
+//! Lines of an answer: words with one space between them, and a line feed.
+
+ghost use Rattle.std.specs.Prelude.{◌≡◌, ◌++◌, ◌<◌, OnOk, List, length, map};
+ghost use Rattle.cpfactor_top.specs.Lines.{word_text, separated, words_text};
+ghost use Rattle.cpfactor_top.specs.Lines.{line};
+
+use itoa::Buffer;
+use std::alloc::AllocError;
+
+/// A word of a line.
+#[derive(Clone, Copy)]
+pub enum Word<'a> {
+    /// The bytes as they are.
+    Text(&'a [u8]),
+    /// A whole number, in decimal digits.
+    Whole(u64),
+    /// A number with its sign, in decimal digits.
+    Signed(i128),
+    /// `num/den`, both in decimal digits.
+    Fraction { num: i128, den: i128 },
+}
+
+/// Appends a word.
+fn push_word(into: &mut Vec<u8>, word: Word) -> Result<(), AllocError>
+    ensures { OnOk result (into.new.items ≡ into.old.items ++ word_text word.entry) }
+{
+    let mut digits = Buffer::new();
+    match word {
+        Word::Text(bytes) => into.extend_from_slice(bytes),
+        Word::Whole(number) => into.extend_from_slice(digits.format(number).as_bytes()),
+        Word::Signed(number) => into.extend_from_slice(digits.format(number).as_bytes()),
+        Word::Fraction { num, den } => push_fraction(into, num, den),
+    }
+}
+
+/// Appends `num/den`.
+pub fn push_fraction(into: &mut Vec<u8>, num: i128, den: i128) -> Result<(), AllocError>
+    ensures { OnOk result (into.new.items ≡ into.old.items ++ word_text (Word.Fraction num den)) }
+{
+    let mut digits = Buffer::new();
+    into.extend_from_slice(digits.format(num).as_bytes())?;
+    into.push(b'/')?;
+    into.extend_from_slice(digits.format(den).as_bytes())
+}
+
+/// Appends the word of a column, with a space before it in every column but the first.
+#[tactic(auto, using(crate::proofs::LineLemmas::first_column, crate::proofs::LineLemmas::later_column))]
+pub fn push_column(into: &mut Vec<u8>, column: usize, word: Word) -> Result<(), AllocError>
+    ensures { OnOk result (into.new.items ≡ into.old.items ++ separated column (word_text word.entry)) }
+{
+    if column == 0 {
+        return push_word(into, word);
+    }
+    into.push(b' ')?;
+    push_word(into, word)
+}
+
+/// Appends the line of these words.
+#[tactic(auto, using(crate::proofs::LineLemmas::line_steps))]
+pub fn push_line(into: &mut Vec<u8>, words: &[Word]) -> Result<(), AllocError>
+    ensures { OnOk result (into.new.items ≡ into.old.items ++ line (words_text words.now)) }
+{
+    for (column, word) in words.iter().enumerate() {
+        push_column(into, column, *word)?;
+    }
+    into.push(b'\n')?;
+    Ok(())
+}

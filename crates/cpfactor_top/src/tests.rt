@@ -1,0 +1,156 @@
+//! Whole runs, through the call that the program makes.
+
+use crate::{Cause, Ended, Status, run, solve_alone};
+use cp_outside::{MemFiles, MemSink};
+use std::alloc::{AllocError, Global};
+use std::test::Fail;
+
+fn words_of(alloc: Global, line: &str) -> Result<Vec<String>, AllocError> {
+    let mut words = Vec::new(alloc);
+    for word in line.split_whitespace() {
+        words.push(String::from_str(alloc, word)?)?;
+    }
+    Ok(words)
+}
+
+/// What a command line answers where the file `a` has these bytes.
+fn answer_to(
+    alloc: Global,
+    line: &str,
+    bytes: &[u8],
+    sink: &mut MemSink,
+) -> Result<Ended, AllocError> {
+    let words = words_of(alloc, line)?;
+    let mut files = MemFiles::new(alloc);
+    files.add("a", bytes)?;
+    Ok(run(alloc, &words, &mut files, sink))
+}
+
+const TWO_BY_TWO: &str = "cpmatrix 1 2\n2 1\n1 2\n";
+
+#[test]
+fn matrices_are_factored_or_named(rt: HostRuntime) -> Result<(), Fail> {
+    let cases = [
+        ("cpmatrix 1 1\n0\n", 0, "factored 1 0\n"),
+        ("cpmatrix 1 1\n5/3\n", 0, "factored 1 1\n5/3 1\n"),
+        (
+            "cpmatrix 1 1\n9223372036854775807\n",
+            0,
+            "factored 1 1\n9223372036854775807/1 1\n",
+        ),
+        (TWO_BY_TWO, 0, "factored 2 3\n1/1 0 1\n1/1 1 0\n1/1 1 1\n"),
+        (
+            "# a comment\n\ncpmatrix 1 2\r\n\t2  1\n1 4/2",
+            0,
+            "factored 2 3\n1/1 0 1\n1/1 1 0\n1/1 1 1\n",
+        ),
+        (
+            "cpmatrix 1 3\n3/2 1 1/2\n1 2 1\n1/2 1 3/2\n",
+            0,
+            "factored 3 6\n1/2 0 0 1\n1/2 0 1 0\n1/2 0 1 1\n1/2 1 0 0\n1/2 1 1 0\n1/2 1 1 1\n",
+        ),
+        ("cpmatrix 1 2\n6 3\n3 2\n", 12, "refused not-yet outside\n"),
+        ("cpmatrix 1 1\n-1\n", 12, "refused not-yet outside\n"),
+    ];
+    for (text, status, expected) in cases {
+        let mut sink = MemSink::with_room(rt.alloc(), 200)?;
+        let ended = answer_to(rt.alloc(), "solve a", text.as_bytes(), &mut sink)?;
+        assert_eq!(rt; ended.status.number(), status, "at {text}");
+        assert_eq!(rt; sink.bytes(), expected.as_bytes(), "at {text}");
+    }
+    Ok(())
+}
+
+#[test]
+fn faulty_texts_are_refused_with_their_first_fault(rt: HostRuntime) -> Result<(), Fail> {
+    let cases = [
+        ("cpmatrix 1 2\n2 1\n0 2\n", "refused text NotSymmetric 3\n"),
+        ("cpmatrix 1 2\n2 1\n", "refused text MissingRow 3\n"),
+        ("cpmatrix 1 1\n1/0\n", "refused text ZeroDenominator 2\n"),
+        (
+            "cpmatrix 1 1\n9223372036854775808\n",
+            "refused text NumberTooLarge 2\n",
+        ),
+        ("", "refused text NoHeader 1\n"),
+        ("cpmatrix 2 1\n5\n", "refused text BadVersion 1\n"),
+        ("cpmatrix 1 7\n", "refused text BadDimension 1\n"),
+        ("cpmatrix 1 2\n2 1 0\n1 2\n", "refused text LongRow 2\n"),
+    ];
+    for (text, expected) in cases {
+        let mut sink = MemSink::with_room(rt.alloc(), 200)?;
+        let ended = answer_to(rt.alloc(), "solve a", text.as_bytes(), &mut sink)?;
+        assert_eq!(rt; ended.status.number(), 3, "at {text}");
+        assert_eq!(rt; sink.bytes(), expected.as_bytes(), "at {text}");
+    }
+    Ok(())
+}
+
+#[test]
+fn operations_that_do_not_fit_are_named(rt: HostRuntime) -> Result<(), Fail> {
+    let cases = [
+        (
+            "cpmatrix 1 2\n1/9223372036854775807 1/9223372036854775806\n1/9223372036854775806 1/9223372036854775805\n",
+            "refused overflow Clear Mul 85070591730234615838173535747377725442 9223372036854775805\n",
+        ),
+        (
+            "cpmatrix 1 3\n1/9223372036854775807 -9223372036854775807 0\n-9223372036854775807 9223372036854775807 -9223372036854775807\n0 -9223372036854775807 9223372036854775807\n",
+            "refused overflow Start Add 170141183460469231694793815568465002498 85070591730234615847396907784232501249\n",
+        ),
+    ];
+    for (text, expected) in cases {
+        let mut sink = MemSink::with_room(rt.alloc(), 200)?;
+        let ended = answer_to(rt.alloc(), "solve a", text.as_bytes(), &mut sink)?;
+        assert_eq!(rt; ended.status, Status::Overflow, "at {text}");
+        assert_eq!(rt; ended.status.number(), 6);
+        assert_eq!(rt; sink.bytes(), expected.as_bytes(), "at {text}");
+    }
+    Ok(())
+}
+
+#[test]
+fn faulty_words_are_refused_at_their_position(rt: HostRuntime) -> Result<(), Fail> {
+    let cases = [
+        ("", "refused usage 1\n"),
+        ("minimum a", "refused usage 1\n"),
+        ("solve", "refused usage 2\n"),
+        ("solve a b", "refused usage 3\n"),
+    ];
+    for (line, expected) in cases {
+        let mut sink = MemSink::with_room(rt.alloc(), 200)?;
+        let ended = answer_to(rt.alloc(), line, TWO_BY_TWO.as_bytes(), &mut sink)?;
+        assert_eq!(rt; ended.status, Status::Usage, "at {line}");
+        assert_eq!(rt; ended.status.number(), 2);
+        assert_eq!(rt; sink.bytes(), expected.as_bytes(), "at {line}");
+    }
+    Ok(())
+}
+
+#[test]
+fn a_file_over_the_limit_is_refused(rt: HostRuntime) -> Result<(), Fail> {
+    let mut sink = MemSink::with_room(rt.alloc(), 200)?;
+    let bytes = vec![in rt.alloc(); 48u8; 1_048_577]?;
+    let ended = answer_to(rt.alloc(), "solve a", &bytes, &mut sink)?;
+    assert_eq!(rt; ended.status.number(), 3);
+    assert_eq!(rt; ended.cause, Cause::TooLong);
+    assert_eq!(rt; sink.bytes(), b"refused text TooLong\n".as_slice());
+    Ok(())
+}
+
+#[test]
+fn an_unknown_file_is_a_read_fault(rt: HostRuntime) -> Result<(), Fail> {
+    let mut sink = MemSink::with_room(rt.alloc(), 200)?;
+    let ended = answer_to(rt.alloc(), "solve b", TWO_BY_TWO.as_bytes(), &mut sink)?;
+    assert_eq!(rt; ended.status.number(), 7);
+    assert_eq!(rt; sink.bytes(), b"refused read\n".as_slice());
+    Ok(())
+}
+
+#[test]
+fn a_failed_put_leaves_a_front_of_the_text(rt: HostRuntime) -> Result<(), Fail> {
+    let mut sink = MemSink::with_room(rt.alloc(), 200)?;
+    sink.fail_at(2, 3)?;
+    let ended = solve_alone(rt.alloc(), TWO_BY_TWO.as_bytes(), &mut sink);
+    assert_eq!(rt; ended.status.number(), 8);
+    assert_eq!(rt; sink.bytes(), b"factored 2 3\n1/1".as_slice());
+    Ok(())
+}

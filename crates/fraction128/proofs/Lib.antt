@@ -1,0 +1,5 @@
+pub mod Operations
+pub mod Products
+pub mod Sums
+pub mod Orders
+pub mod TermLists

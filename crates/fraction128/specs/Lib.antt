@@ -1,0 +1,3 @@
+pub mod Recipes
+pub mod Order
+pub mod Terms

@@ -1,0 +1,165 @@
+-- The text of a matrix: what it stands for, or its first fault.
+--
+--     entry_of word            the fraction that a word writes, or BadNumber, NumberTooLarge, ZeroDenominator
+--     row_of n words           the fractions of n words, or the fault of the first that has one; ShortRow, LongRow
+--     header_of words          the number n of the words `cpmatrix`, `1`, n; NoHeader, BadVersion, BadDimension
+--     in_line read line        what is read of a line's words; NotAscii before every other fault of the line
+--     rows_of n end k lines    k rows of n entries and no further line; MissingRow at the end line, ExtraLine
+--     table_of text            the header and the rows
+--     matrix_of bytes          the matrix; NotSymmetric, where no other fault is, at the line of the first row
+--                              that is not as its column, left of the diagonal
+--     MatrixText bytes a       the bytes are a text of the matrix
+--     MatrixFault bytes k l    the first fault of the bytes is of this kind, at this line
+--     HasOneReading bytes      exactly one of the two holds, for exactly one value
+--
+-- Lines count from 1, rows and columns from 0.
+use Rattle.std.specs.Prelude.{◌≡◌, ℕ, zero, suc, ◌+◌, Bool, not, ◌&&◌, ◌||◌, ◌⊎◌, List, [], ◌∷◌, length, take, drop, map, Option, Some, None, Result, Ok, Err, position, pos, nat_lt, ◌==◌, if◌then◌else◌, codes, slice_index_or}
+use Rattle.std.specs.List.{list_all}
+use Rattle.std.specs.Str.{bytes_eq}
+use Rattle.std.specs.Ordering.{int_eq}
+use Rattle.exact_forms.specs.Rational.{Rational, ratio, whole}
+use Rattle.matrix_text.specs.Lines.{words, content_lines, end_line, TextLine, Content}
+use Rattle.matrix_text.specs.Numbers.{is_whole, whole_value, is_signed, magnitude, signed_value}
+use Rattle.matrix_text.specs.Square.{lower_of, first_unlike}
+use Rattle.matrix_text.specs.RationalMatrix.{RationalMatrix}
+use Rattle.matrix_text.specs.declared.fault.TextKind.{TextKind}
+use Rattle.matrix_text.specs.declared.fault.TextKind.TheVariants.{NotAscii, NoHeader, BadVersion, BadDimension, BadNumber, NumberTooLarge, ZeroDenominator, ShortRow, LongRow, MissingRow, ExtraLine, NotSymmetric}
+use Rattle.matrix_text.specs.declared.fault.TextFault.{TextFault}
+
+infixl 10 ◌>>=◌
+abbrev pub ◌>>=◌ : {A B E : Type 0} → Result A E → (A → Result B E) → Result B E
+(Ok x) >>= f = f x
+(Err e) >>= f = Err e
+
+-- ---- a word
+
+abbrev pub is_large : ℕ → Bool
+is_large n = nat_lt 9223372036854775807 n
+
+-- the fraction of two words, the lower one a whole number
+unfoldable pub ratio_of : List ℕ → List ℕ → Result Rational TextKind
+ratio_of top bottom =
+    if not (is_signed top && is_whole bottom) then Err BadNumber
+    else (if is_large (magnitude top) || is_large (whole_value bottom) then Err NumberTooLarge
+    else (if whole_value bottom == 0 then Err ZeroDenominator
+    else Ok (ratio (signed_value top) (whole_value bottom))))
+
+abbrev pub is_slash : ℕ → Bool
+is_slash b = b == 47
+
+abbrev pub parted : List ℕ → Option ℕ → Result Rational TextKind
+parted word None = ratio_of word (codes "1")
+parted word (Some at) = ratio_of (take at word) (drop (at + 1) word)
+
+-- a fraction word: a signed word, or a signed word, `/` and a whole word
+unfoldable pub entry_of : List ℕ → Result Rational TextKind
+entry_of word = parted word (position is_slash word)
+
+-- ---- a line
+
+-- the first n words, and no more
+unfoldable pub row_of : ℕ → List (List ℕ) → Result (List Rational) TextKind
+row_of zero [] = Ok []
+row_of zero (word ∷ more) = Err LongRow
+row_of (suc n) [] = Err ShortRow
+row_of (suc n) (word ∷ more) = do
+  entry ← entry_of word
+  entries ← row_of n more
+  Ok (entry ∷ entries)
+
+-- a whole word of value 1 to 6
+unfoldable pub size_of_word : List ℕ → Result ℕ TextKind
+size_of_word word = if is_whole word && nat_lt 0 (whole_value word) && nat_lt (whole_value word) 7 then Ok (whole_value word) else Err BadDimension
+
+-- the size that the header names
+unfoldable pub header_of : List (List ℕ) → Result ℕ TextKind
+header_of (name ∷ version ∷ size ∷ []) =
+    if not (bytes_eq name (codes "cpmatrix")) then Err NoHeader
+    else (if not (bytes_eq version (codes "1")) then Err BadVersion
+    else size_of_word size)
+header_of others = Err NoHeader
+
+abbrev pub is_ascii : List ℕ → Bool
+is_ascii bytes = list_all (λ b. nat_lt b 128) bytes
+
+abbrev pub at_line : {A : Type 0} → ℕ → Result A TextKind → Result A TextFault
+at_line line (Ok x) = Ok x
+at_line line (Err kind) = Err (record { kind = kind; line = line })
+
+-- what the words of a line stand for; a byte that is not ASCII comes before every other fault
+unfoldable pub in_line : {A : Type 0} → (List (List ℕ) → Result A TextKind) → TextLine → Result A TextFault
+in_line read line = at_line line.number (if is_ascii line.bytes then read (words line.bytes) else Err NotAscii)
+
+-- ---- the text
+
+pub record TextRow : Type 0 where
+  pub line : ℕ
+  pub entries : List Rational
+
+-- k rows of this size, and no further line
+unfoldable pub rows_of : ℕ → ℕ → ℕ → List TextLine → Result (List TextRow) TextFault
+rows_of size end zero [] = Ok []
+rows_of size end zero (line ∷ more) = in_line (λ others. Err ExtraLine) line
+rows_of size end (suc k) [] = Err (record { kind = MissingRow; line = end })
+rows_of size end (suc k) (line ∷ more) = do
+  entries ← in_line (row_of size) line
+  rows ← rows_of size end k more
+  Ok (record { line = line.number; entries = entries } ∷ rows)
+
+-- what a function returned, seen by view, is what reading gives
+abbrev pub Gives : {X Y E : Type 0} → (X → Y) → Result X E → Result Y E → Type 0
+Gives view (Ok x) read = read ≡ Ok (view x)
+Gives view (Err e) read = read ≡ Err e
+
+abbrev pub table_of_lines : ℕ → List TextLine → Result (List TextRow) TextFault
+table_of_lines end [] = Err (record { kind = NoHeader; line = end })
+table_of_lines end (line ∷ more) = do
+  size ← in_line header_of line
+  rows_of size end size more
+
+-- the header and the rows
+unfoldable pub table_of : Content → Result (List TextRow) TextFault
+table_of text = table_of_lines text.end text.lines
+
+-- ---- the matrix
+
+abbrev pub none : Rational
+none = whole (pos 0)
+
+-- the numbers are equal; both are in lowest terms
+abbrev pub same_number : Rational → Rational → Bool
+same_number x y = int_eq x.num y.num && int_eq (pos x.den) (pos y.den)
+
+abbrev pub entries_of : List TextRow → List (List Rational)
+entries_of rows = map (λ row. row.entries) rows
+
+abbrev pub line_of_row : List TextRow → ℕ → ℕ
+line_of_row rows i = (slice_index_or rows i (record { line = 0; entries = [] })).line
+
+abbrev pub mirrored : List TextRow → Option ℕ → Result RationalMatrix TextFault
+mirrored rows None = Ok (record { size = length rows; lower = lower_of (entries_of rows) })
+mirrored rows (Some i) = Err (record { kind = NotSymmetric; line = line_of_row rows i })
+
+unfoldable pub matrix_of : List ℕ → Result RationalMatrix TextFault
+matrix_of bytes = do
+  rows ← table_of (record { lines = content_lines bytes; end = end_line bytes })
+  mirrored rows (first_unlike same_number none (entries_of rows))
+
+unfoldable pub MatrixText : List ℕ → RationalMatrix → Type 0
+MatrixText bytes a = matrix_of bytes ≡ Ok a
+
+unfoldable pub MatrixFault : List ℕ → TextKind → ℕ → Type 0
+MatrixFault bytes kind line = matrix_of bytes ≡ Err (record { kind = kind; line = line })
+
+pub record IsTextOfOne (bytes : List ℕ) (a : RationalMatrix) : Type 0 where
+  pub text : MatrixText bytes a
+  pub alone : (b : RationalMatrix) → MatrixText bytes b → b ≡ a
+  pub faultless : (kind : TextKind) (line : ℕ) → MatrixFault bytes kind line → ⊥
+
+pub record IsFaultyOnce (bytes : List ℕ) (first : TextFault) : Type 0 where
+  pub fault : MatrixFault bytes first.kind first.line
+  pub alone : (kind : TextKind) (line : ℕ) → MatrixFault bytes kind line → (kind ≡ first.kind) × (line ≡ first.line)
+  pub no_text : (a : RationalMatrix) → MatrixText bytes a → ⊥
+
+abbrev pub HasOneReading : List ℕ → Type 0
+HasOneReading bytes = ((a : RationalMatrix) × IsTextOfOne bytes a) ⊎ ((fault : TextFault) × IsFaultyOnce bytes fault)

@@ -1,0 +1,127 @@
+-- The steps of forms and inner products over a lower triangle.
+use Rattle.std.specs.Prelude.{◌≡◌, ℕ, ◌+◌, ◌*◌, ◌^◌, ◌<◌, ◌≤◌, nat_eq, if◌then◌else◌, Bool, true, false, ℤ, pos, ◌+ℤ◌, ◌*ℤ◌, List, [], ◌∷◌, length, map, drop, slice_index_or, Ok, Err}
+use Rattle.std.proofs.Common.{arith, sym, ◌∙◌, ap, ap₂, refl, mul-le-mul}
+use Rattle.std.proofs.lemmas.Int.{to_z_pos}
+use Rattle.std.proofs.lemmas.List.{length-map, get_or-map}
+use mir.Val.{to_z}
+use mir.Syntax.{w128}
+use Rattle.commutative_ring.proofs.Ring.{int_ring, ring, ◌⊗◌, v0, v1, v2, v3}
+use Rattle.exact_forms.specs.Triangles.{triangle}
+use Rattle.exact_forms.specs.Forms.{form}
+use Rattle.exact_forms.specs.Vectors.{coordinate}
+use Rattle.exact_forms.proofs.Forms.{bilinear_is}
+use Rattle.exact_forms.proofs.Triangles.{triangle_more, row_before}
+use Rattle.symmetric_matrix.specs.declared.operation.IntOp.{IntOp}
+use Rattle.symmetric_matrix.specs.Owed.{answer}
+use Rattle.symmetric_matrix.specs.Operations.{is_owed, mul_op, add_op}
+use Rattle.symmetric_matrix.specs.Symmetric.{Symmetric, entry}
+use Rattle.symmetric_matrix.specs.Recipes.{triangle_places, multiplicity, Product, product_ops, form_product, form_ops}
+use Rattle.symmetric_matrix.proofs.Places.{entry_at, entry_flip}
+use Rattle.symmetric_matrix.proofs.TrianglePlaces.{place, length-triangle_places, triangle_place_at, sum_by_places}
+use Rattle.symmetric_matrix.proofs.Telescopes.{list_sum, list_sum_same}
+use Rattle.symmetric_matrix.proofs.Recipes.{product_of, sum_answer, sum_refused, sum_continues, sum_ends, sum_answer_is}
+
+-- ---- places in order
+pub in_row : (n i j k : ℕ) → k ≡ triangle i + j → k < triangle n → i < n
+in_row n i j k e h = row_before i j n (omega arith)
+
+pub next_in_row : (i j k : ℕ) → k ≡ triangle i + j → k + 1 ≡ triangle i + (j + 1)
+next_in_row i j k e = omega arith
+
+pub next_row : (i j k : ℕ) → k ≡ triangle i + j → j ≤ i → i ≤ j → k + 1 ≡ triangle (i + 1) + 0
+next_row i j k e h l = omega (arith, triangle_more i)
+
+-- ---- the weight fits
+pub weight_fits : (x : List ℕ) (i j t a b : ℕ) → a ≡ slice_index_or x i 0 → b ≡ slice_index_or x j 0 → slice_index_or x i 0 ≤ 2 ^ 62 → slice_index_or x j 0 ≤ 2 ^ 62
+    → t ≡ (if nat_eq i j then 1 else 2) → to_z w128 (t * (a * b)) ≡ pos (multiplicity (record { row = i; column = j }) * (slice_index_or x i 0 * slice_index_or x j 0))
+unfolding multiplicity
+weight_fits x i j t a b ea eb sa sb et =
+    let product : a * b ≤ 2 ^ 62 * 2 ^ 62 = rw (ea, eb) (mul-le-mul sa sb) in
+    let times : t ≤ 2 = rw et (at_most_two (nat_eq i j)) in
+    let whole : t * (a * b) ≤ 2 * (2 ^ 62 * 2 ^ 62) = mul-le-mul times product in
+    to_z_pos w128 (t * (a * b)) (omega arith) ∙ ap pos (ap₂ (λ (m : ℕ) (n : ℕ). m * n) et (ap₂ (λ (m : ℕ) (n : ℕ). m * n) ea eb))
+  where
+    at_most_two : (b : Bool) → (if b then 1 else 2) ≤ 2
+    at_most_two true = omega arith
+    at_most_two false = omega arith
+
+-- ---- a form
+abbrev pub matrix_of : ℕ → List ℤ → Symmetric
+matrix_of n lower = record { size = n; lower = lower }
+
+pub form_products : List ℕ → List ℤ → List Product
+form_products x lower = map (form_product (matrix_of (length x) lower) x) (triangle_places (length x))
+
+plain_product : ℤ → ℤ → Product
+plain_product q w = record { before = []; left = q; right = w }
+
+pub length-form_products : (x : List ℕ) (lower : List ℤ) → length (form_products x lower) ≡ triangle (length x)
+unfolding form_products
+length-form_products x lower = length-map (triangle_places (length x)) (form_product (matrix_of (length x) lower) x) ∙ length-triangle_places (length x)
+
+form_product_at : (x : List ℕ) (lower : List ℤ) (k i j : ℕ) (q w : ℤ) (d : Product) → length lower ≡ triangle (length x) → k ≡ triangle i + j → j ≤ i → k < length lower
+    → q ≡ slice_index_or lower k (pos 0) → w ≡ pos (multiplicity (record { row = i; column = j }) * (slice_index_or x i 0 * slice_index_or x j 0))
+    → slice_index_or (form_products x lower) k d ≡ plain_product q w
+unfolding form_products form_product plain_product
+form_product_at x lower k i j q w d long e h l is_q is_w =
+    let n : ℕ = length x in
+    let row : i < length x = in_row (length x) i j k e (omega arith) in
+    get_or-map (form_product (matrix_of (length x) lower) x) (triangle_places (length x)) k (place 0 0) d (omega (arith, length-triangle_places (length x)))
+    ∙ ap (form_product (matrix_of (length x) lower) x) (ap (λ (k : ℕ). slice_index_or (triangle_places (length x)) k (place 0 0)) e ∙ triangle_place_at (length x) i j (place 0 0) row h)
+    ∙ ap₂ (λ (a : ℤ) (b : ℤ). plain_product a b)
+    (entry_at (matrix_of (length x) lower) i j h ∙ ap (λ (k : ℕ). slice_index_or lower k (pos 0)) (sym e) ∙ sym is_q)
+    (sym is_w)
+
+plain_ops : (s q w : ℤ) → product_ops s (plain_product q w) ≡ mul_op q w ∷ add_op s (q *ℤ w) ∷ []
+unfolding product_ops plain_product
+plain_ops s q w = refl
+
+pub form_refused : (x : List ℕ) (lower : List ℤ) (k i j : ℕ) (s q w : ℤ) (err : IntOp) → length lower ≡ triangle (length x) → k ≡ triangle i + j → j ≤ i → k < length lower
+    → q ≡ slice_index_or lower k (pos 0) → w ≡ pos (multiplicity (record { row = i; column = j }) * (slice_index_or x i 0 * slice_index_or x j 0))
+    → answer is_owed (mul_op q w ∷ add_op s (q *ℤ w) ∷ []) (s +ℤ q *ℤ w) ≡ Err err → sum_answer (drop k (form_products x lower)) s ≡ Err err
+unfolding plain_product
+form_refused x lower k i j s q w err long e h l is_q is_w refused =
+    sum_refused (form_products x lower) k s (plain_product q w) (plain_product q w) err (omega (arith, length-form_products x lower))
+    (form_product_at x lower k i j q w (plain_product q w) long e h l is_q is_w)
+    (ap (λ (ops : List IntOp). answer is_owed ops (s +ℤ q *ℤ w)) (plain_ops s q w) ∙ refused)
+
+pub form_continues : (x : List ℕ) (lower : List ℤ) (k i j : ℕ) (s q w z : ℤ) → length lower ≡ triangle (length x) → k ≡ triangle i + j → j ≤ i → k < length lower
+    → q ≡ slice_index_or lower k (pos 0) → w ≡ pos (multiplicity (record { row = i; column = j }) * (slice_index_or x i 0 * slice_index_or x j 0))
+    → answer is_owed (mul_op q w ∷ add_op s (q *ℤ w) ∷ []) (s +ℤ q *ℤ w) ≡ Ok z
+    → sum_answer (drop k (form_products x lower)) s ≡ sum_answer (drop (k + 1) (form_products x lower)) z
+unfolding plain_product
+form_continues x lower k i j s q w z long e h l is_q is_w done =
+    sum_continues (form_products x lower) k s (plain_product q w) (plain_product q w) z (omega (arith, length-form_products x lower))
+    (form_product_at x lower k i j q w (plain_product q w) long e h l is_q is_w)
+    (ap (λ (ops : List IntOp). answer is_owed ops (s +ℤ q *ℤ w)) (plain_ops s q w) ∙ done)
+
+pub form_ends : (x : List ℕ) (lower : List ℤ) (k : ℕ) (s : ℤ) → length lower ≡ triangle (length x) → length lower ≤ k → sum_answer (drop k (form_products x lower)) s ≡ Ok s
+form_ends x lower k s long h = sum_ends (form_products x lower) k s (omega (arith, length-form_products x lower))
+
+-- the products come to the double sum
+pub list_sum_of_map : {X : Type 0} (f : X → Product) (xs : List X) → list_sum int_ring product_of (map f xs) ≡ list_sum int_ring (λ x. product_of (f x)) xs
+unfolding list_sum
+list_sum_of_map f [] = refl
+list_sum_of_map f (x ∷ xs) = ap (λ (z : ℤ). product_of (f x) +ℤ z) (list_sum_of_map f xs)
+
+form_value : (x : List ℕ) (lower : List ℤ) → list_sum int_ring product_of (form_products x lower) ≡ form (length x) (entry (matrix_of (length x) lower)) (coordinate x)
+unfolding form_products form_product
+form_value x lower =
+    let q : Symmetric = matrix_of (length x) lower in
+    let g : ℕ → ℕ → ℤ = λ (i : ℕ) (j : ℕ). entry (matrix_of (length x) lower) i j *ℤ (coordinate x i *ℤ coordinate x j) in
+    list_sum_of_map (form_product (matrix_of (length x) lower) x) (triangle_places (length x))
+    ∙ list_sum_same int_ring _ (λ p. pos (multiplicity p) *ℤ g p.row p.column) (triangle_places (length x))
+    (λ p. moved (entry (matrix_of (length x) lower) p.row p.column) (multiplicity p) (slice_index_or x p.row 0) (slice_index_or x p.column 0))
+    ∙ sum_by_places (length x) g (λ i j hi hj. flipped (entry (matrix_of (length x) lower) i j) (entry (matrix_of (length x) lower) j i) (coordinate x i) (coordinate x j) (entry_flip (matrix_of (length x) lower) i j))
+    ∙ sym (bilinear_is (length x) (entry (matrix_of (length x) lower)) (coordinate x) (coordinate x))
+  where
+    moved : (q : ℤ) (m a b : ℕ) → q *ℤ pos (m * (a * b)) ≡ pos m *ℤ (q *ℤ (pos a *ℤ pos b))
+    moved q m a b = ring (q ∷ pos m ∷ pos a ∷ pos b ∷ []) (v0 ⊗ (v1 ⊗ (v2 ⊗ v3))) (v1 ⊗ (v0 ⊗ (v2 ⊗ v3))) refl
+
+    flipped : (p q a b : ℤ) → p ≡ q → p *ℤ (a *ℤ b) ≡ q *ℤ (b *ℤ a)
+    flipped p q a b e = ap (λ (p : ℤ). p *ℤ (a *ℤ b)) e ∙ ring (q ∷ a ∷ b ∷ []) (v0 ⊗ (v1 ⊗ v2)) (v0 ⊗ (v2 ⊗ v1)) refl
+
+pub form_answer_is : (x : List ℕ) (lower : List ℤ)
+    → sum_answer (form_products x lower) (pos 0) ≡ answer is_owed (form_ops (matrix_of (length x) lower) x) (form (length x) (entry (matrix_of (length x) lower)) (coordinate x))
+unfolding form_products form_ops
+form_answer_is x lower = sum_answer_is (form_products x lower) (form (length x) (entry (matrix_of (length x) lower)) (coordinate x)) (form_value x lower)
