@@ -9,8 +9,10 @@
 --     IsJudgement                a judgement's least value, fate and word are right, with the final word
 --     IsLowFate, IsEndFate       a generator is low; the cone is at the limit or a child does not fit
 --     IsFair m n q d list final  one judgement for the root and for each child of a Split, and for no other path
+--     IsUntold m word j          no answer looks at j, where the final word is at most this
+--     IsKeptOrUntold             j is kept, or no answer looks at it
 --     IsFairPart                 the judgements of a fair list that an answer looks at, and maybe others of it
-use Rattle.std.specs.Prelude.{ℕ, zero, suc, ℤ, pos, negsuc, ◌<◌, ◌≤◌, ◌+◌, ◌-◌, ◌^◌, ◌≡◌, ◌≢◌, ◌⊎◌, Bool, List, [], ◌∷◌, ◌++◌, length, min, max, Some}
+use Rattle.std.specs.Prelude.{ℕ, zero, suc, ℤ, pos, negsuc, ◌<ℤ◌, ◌<◌, ◌≤◌, ◌+◌, ◌-◌, ◌^◌, ◌≡◌, ◌≢◌, ◌⊎◌, Bool, List, [], ◌∷◌, ◌++◌, length, min, max, Some}
 use Rattle.std.specs.List.{Contains}
 use Rattle.std.specs.Int.{int_min}
 use Rattle.unimodular_cone.specs.Paths.{Path}
@@ -161,6 +163,16 @@ pub record HasAllThatTells (m : Mode) (final : ℕ) (all part : List Judged) : T
   pub low : (j : Judged) → Contains all j → IsLowFate j.fate → Contains part j
   pub ends : (j : Judged) → Contains all j → IsEndFate j.fate → Contains part j
   pub attaining : m ≡ Least → 256 ≤ final → (j : Judged) → Contains all j → j.least ≡ bound_under Least final → Contains part j
+
+-- no answer looks at j, which was made under this word or a greater one
+pub record IsUntold (m : Mode) (word : ℕ) (j : Judged) : Type 0 where
+  pub not_low : ¬ IsLowFate j.fate
+  pub no_end : ¬ IsEndFate j.fate
+  pub above : m ≡ Least → 256 ≤ word → bound_under Least word <ℤ j.least
+
+-- j is kept, or no answer looks at it
+abbrev pub IsKeptOrUntold : Mode → ℕ → Judged → List Judged → List Judged → Type 0
+IsKeptOrUntold m word j old new = (new ≡ old ++ j ∷ []) ⊎ ((new ≡ old) × IsUntold m word j)
 
 pub record IsFairPart (m : Mode) (n : ℕ) (q : Matrix) (d : ℕ) (part : List Judged) (final : ℕ) : Type 0 where
   pub all : List Judged

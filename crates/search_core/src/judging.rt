@@ -1,12 +1,16 @@
 //! The fate of a cone under a word.
 
-ghost use Rattle.std.specs.Prelude.{◌≡◌, ◌≤◌, ◌<◌, ◌-◌, ℕ, suc, length, Some, MatchOption};
+ghost use Rattle.std.specs.Prelude.{◌≡◌, ◌≤◌, ◌<◌, ◌-◌, ℕ, suc, length, Some, MatchOption, OnOk, OnErr};
 ghost use Rattle.unimodular_cone.specs.Shown.{IsWithinLimits};
-ghost use Rattle.search_core.specs.Judging.{shown_code, IsLowShown, IsFirstLowShown, IsClosedShown, IsUndecidedShown, IsShownFate};
+ghost use Rattle.search_core.specs.Judging.{shown_code, IsLowShown, IsFirstLowShown, IsClosedShown, IsUndecidedShown, IsShownFate, IsJudgementOf};
 
-use crate::fate::Fate;
+ghost use Rattle.std.specs.Bool.{MatchBool};
+ghost use Rattle.search_core.specs.Fair.{IsUntold, IsKeptOrUntold};
+
+use crate::fate::{Fate, Judged};
 use crate::words::{bound_under, is_low_value};
-use unimodular_cone::{ConeRead, Mode, children_fit, closed, pair};
+use std::alloc::AllocError;
+use unimodular_cone::{ConeRead, Mode, children_fit, closed, least_value, pair};
 
 /// The first low generator of a cone, counted from 1.
 fn first_low<C: ConeRead>(mode: Mode, c: &C) -> Option<u8>
@@ -66,4 +70,44 @@ pub fn judge<C: ConeRead>(mode: Mode, c: &C, limit: u8, word: u64) -> Fate
         return Fate::Dropped { word };
     }
     undecided_fate(mode, c, limit, word)
+}
+
+/// The judgement of a cone under a word, with a limit of depth.
+pub fn judgement<C: ConeRead>(mode: Mode, c: &C, limit: u8, word: u64) -> Judged
+    requires below_code { word ≤ shown_code mode (C.cone c.now) }
+    requires limited { limit ≤ 200 }
+    requires within { length (C.cone c.now).path ≤ limit }
+    ensures { IsJudgementOf mode (C.cone c.now) limit word result }
+{
+    Judged {
+        path: c.path(),
+        fate: judge(mode, c, limit, word),
+        least: least_value(c),
+    }
+}
+
+/// Whether an answer may look at a judgement that was made under this word: it is low, it is an end of the tree, or its
+/// least value is at most the word's bound.
+pub fn tells(mode: Mode, j: &Judged, word: u64) -> bool
+    ensures { MatchBool result (Unit {0}) (IsUntold mode word j.now) }
+{
+    match j.fate {
+        Fate::Low { .. } | Fate::AtLimit { .. } | Fate::Wide { .. } => true,
+        Fate::Closed { .. } | Fate::Split { .. } | Fate::Dropped { .. } => match mode {
+            Mode::Sign => false,
+            Mode::Least => j.least <= i128::from(bound_under(mode, word)),
+        },
+    }
+}
+
+/// Keeps a judgement that was made under this word, if an answer may look at it. After a refusal the list is as before.
+pub fn keep(judged: &mut Vec<Judged>, mode: Mode, j: Judged, word: u64) -> Result<(), AllocError>
+    ensures kept { OnOk result (IsKeptOrUntold mode word j judged.old.items judged.new.items) }
+    ensures err { OnErr result (judged.new.items ≡ judged.old.items) }
+{
+    let Judged { path, fate, least } = j;
+    if tells(mode, &j, word) {
+        judged.push(Judged { path, fate, least })?;
+    }
+    Ok(())
 }

@@ -24,7 +24,7 @@ pub(crate) fn is_low_value(mode: Mode, value: i128) -> bool
 }
 
 /// The least diagonal entry.
-pub(crate) fn least_diagonal(q: &SymInt) -> i128
+pub fn least_diagonal(q: &SymInt) -> i128
     ensures { IsLeastDiagonal q.now.size (entry q.now) result }
 {
     let n = q.n();

@@ -1,13 +1,7 @@
-// A library with one function.
+//! The search on one thread.
 #![tactic(auto)]
 
-ghost use Rattle.std.specs.Prelude.{◌≡◌};
-ghost use Rattle.serial_search.specs.Echo.{echo_of};
+mod search;
+mod searcher;
 
-// The `ensures` clause is the contract: what `echo` returns is `echo_of` of its argument, a definition
-// in `specs/Echo.antt`, which a caller's clause can cite too.
-pub fn echo(x: usize) -> usize
-    ensures { result ≡ echo_of x }
-{
-    x
-}
+pub use searcher::SerialSearcher;
