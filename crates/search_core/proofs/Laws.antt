@@ -16,7 +16,6 @@ use Rattle.unimodular_cone.specs.Tree.{IsLow, IsFirstLowAt, IsFirstOverBelow}
 use Rattle.search_core.specs.Fair.{Fate, Closed, Split, Low, Dropped, AtLimit, Wide, least_value, code, bound_under, IsClosedUnder, IsUndecided, IsSplitAt, IsFate}
 use Rattle.unimodular_cone.proofs.Pairs.{pair_of_some, pair_of_none, pair_unique}
 use Rattle.unimodular_cone.proofs.Covers.{closed_without_pair}
-
 use Rattle.unimodular_cone.proofs.Minimum.{not_low_Sign, not_low_Least}
 use Rattle.search_core.proofs.LeastValues.{least_value_le, least_value_attained, code_not_low, bound_within}
 use Rattle.unimodular_cone.proofs.Pairs.{some_pair}

@@ -7,7 +7,10 @@ use unimodular_cone::{Path, WideAt};
 #[derive(Drop)]
 pub enum Least {
     /// The least value over the tree, and all vectors that attain it, in lexicographic order.
-    Found { minimum: i128, vectors: VectorList },
+    Found {
+        minimum: i128,
+        vectors: VectorList,
+    },
     /// A cone with a value of at most 0: the path of least depth, then least digits, with its first low generator and its value.
     Low {
         vector: IntVector,
@@ -15,11 +18,17 @@ pub enum Least {
         path: Path,
     },
     /// The first open path has as many digits as the limit.
-    Depth { path: Path },
+    Depth {
+        path: Path,
+    },
     /// The root does not fit, or a child of the first open path: the first entry over its limit.
-    Wide { at: WideAt },
+    Wide {
+        at: WideAt,
+    },
     /// The least diagonal entry, which is over 2^63 - 1.
-    BoundWide { diagonal: i128 },
+    BoundWide {
+        diagonal: i128,
+    },
     /// Memory ran out.
     OutOfMemory,
 }
@@ -36,9 +45,13 @@ pub enum Sign {
         path: Path,
     },
     /// The first open path has as many digits as the limit.
-    Depth { path: Path },
+    Depth {
+        path: Path,
+    },
     /// The root does not fit, or a child of the first open path: the first entry over its limit.
-    Wide { at: WideAt },
+    Wide {
+        at: WideAt,
+    },
     /// Memory ran out.
     OutOfMemory,
 }

@@ -62,7 +62,11 @@ fn add_key(found: &mut BTreeSet<Key>, key: Key) -> Result<(), AllocError>
 }
 
 /// Puts the keys of a cone's generators of this value into a set.
-fn add_attaining<C: ConeRead>(c: &C, minimum: u64, found: &mut BTreeSet<Key>) -> Result<(), AllocError>
+fn add_attaining<C: ConeRead>(
+    c: &C,
+    minimum: u64,
+    found: &mut BTreeSet<Key>,
+) -> Result<(), AllocError>
     ensures { OnOk result (AddsAttaining (C.cone c.now) (C.cone c.now).size (pos minimum) found.old.keys found.new.keys) }
 {
     let n = c.n();
@@ -87,7 +91,13 @@ pub(crate) fn fitting_cone(q: &SymInt, limit: u8, path: &Path) -> Cone
 }
 
 /// The keys of the generators of this value of the judgements whose least value it is.
-fn keys_attaining(alloc: Global, q: &SymInt, limit: u8, judged: &[Judged], minimum: u64) -> Result<BTreeSet<Key>, AllocError>
+fn keys_attaining(
+    alloc: Global,
+    q: &SymInt,
+    limit: u8,
+    judged: &[Judged],
+    minimum: u64,
+) -> Result<BTreeSet<Key>, AllocError>
     requires in_tree { AreInTree q.now.size (entry q.now) limit judged.now }
     requires fits { Fits q.now.size (entry q.now) unit_vectors }
     ensures { IfOk result (λ found. HasGenerators q.now.size (entry q.now) judged.now (pos minimum) found.keys) }
@@ -117,7 +127,13 @@ fn listed(alloc: Global, n: u8, keys: BTreeSet<Key>) -> Result<VectorList, Alloc
 }
 
 /// The generators of this value of the judgements whose least value it is, in increasing order, each once.
-pub(crate) fn attaining(alloc: Global, q: &SymInt, limit: u8, judged: &[Judged], minimum: u64) -> Result<VectorList, AllocError>
+pub(crate) fn attaining(
+    alloc: Global,
+    q: &SymInt,
+    limit: u8,
+    judged: &[Judged],
+    minimum: u64,
+) -> Result<VectorList, AllocError>
     requires in_tree { AreInTree q.now.size (entry q.now) limit judged.now }
     requires fits { Fits q.now.size (entry q.now) unit_vectors }
     ensures { IfOk result (ListsGenerators q.now.size (entry q.now) judged.now (pos minimum)) }

@@ -3,7 +3,6 @@
 ghost use Rattle.std.specs.Prelude.{◌≡◌, ◌≤◌, ◌<◌, ◌-◌, ℕ, suc, length, Some, MatchOption, OnOk, OnErr};
 ghost use Rattle.unimodular_cone.specs.Shown.{IsWithinLimits};
 ghost use Rattle.search_core.specs.Judging.{shown_code, IsLowShown, IsFirstLowShown, IsClosedShown, IsUndecidedShown, IsShownFate, IsJudgementOf};
-
 ghost use Rattle.std.specs.Bool.{MatchBool};
 ghost use Rattle.search_core.specs.Fair.{IsUntold, IsKeptOrUntold};
 

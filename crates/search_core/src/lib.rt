@@ -15,7 +15,7 @@ pub use answer::{Least, Sign};
 pub use descent::{fitting_child, fitting_root};
 pub use fate::{Fate, Judged};
 pub use judging::{judge, judgement, keep, tells};
-pub use settling::{settle_least, settle_least_part, settle_sign, settle_sign_part};
 pub use searcher::Searcher;
+pub use settling::{settle_least, settle_least_part, settle_sign, settle_sign_part};
 pub use unimodular_cone::Mode;
 pub use words::{code, least_diagonal, start_word};

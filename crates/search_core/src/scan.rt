@@ -3,7 +3,6 @@
 ghost use Rattle.std.specs.Prelude.{◌≡◌, ◌↔◌, IsTrue, pos};
 ghost use Rattle.std.specs.Bool.{MatchBool};
 ghost use Rattle.search_core.specs.Scans.{IsLowOf, IsOpenEnd, AreInTree, FindsFirst, IsBefore, IsBehind};
-
 ghost use Rattle.search_core.specs.Fair.{IsEndFate};
 ghost use Rattle.symmetric_matrix.specs.Symmetric.{entry};
 ghost use Rattle.unimodular_cone.specs.Cones.{unit_vectors, Fits};

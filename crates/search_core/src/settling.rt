@@ -25,8 +25,12 @@ pub(crate) enum End {
         value: i128,
         path: Path,
     },
-    Depth { path: Path },
-    Wide { at: WideAt },
+    Depth {
+        path: Path,
+    },
+    Wide {
+        at: WideAt,
+    },
     Closed,
 }
 
@@ -66,7 +70,14 @@ fn open_end(first: Judged) -> End
 }
 
 /// The end of a search from some judgements of a fair list, with the final word.
-fn end_of(alloc: Global, mode: Mode, q: &SymInt, limit: u8, judged: &[Judged], final_word: u64) -> End
+fn end_of(
+    alloc: Global,
+    mode: Mode,
+    q: &SymInt,
+    limit: u8,
+    judged: &[Judged],
+    final_word: u64,
+) -> End
     requires part { IsFairPart mode q.now.size (entry q.now) limit judged.now final_word }
     requires limited { limit ≤ 200 }
     requires fits { Fits q.now.size (entry q.now) unit_vectors }
@@ -85,7 +96,13 @@ fn end_of(alloc: Global, mode: Mode, q: &SymInt, limit: u8, judged: &[Judged], f
 
 /// The answer of the search for the least value, from some judgements of a fair list: it looks at those that tell alone.
 /// They may stand in any order.
-pub fn settle_least_part(alloc: Global, q: &SymInt, limit: u8, judged: &[Judged], final_word: u64) -> Least
+pub fn settle_least_part(
+    alloc: Global,
+    q: &SymInt,
+    limit: u8,
+    judged: &[Judged],
+    final_word: u64,
+) -> Least
     requires part { IsFairPart Mode.Least q.now.size (entry q.now) limit judged.now final_word }
     requires limited { limit ≤ 200 }
     requires fits { Fits q.now.size (entry q.now) unit_vectors }
@@ -130,7 +147,13 @@ fn found(alloc: Global, q: &SymInt, limit: u8, judged: &[Judged], final_word: u6
 
 /// The answer of the search for a value below 0, from some judgements of a fair list: it looks at those that tell alone.
 /// They may stand in any order.
-pub fn settle_sign_part(alloc: Global, q: &SymInt, limit: u8, judged: &[Judged], final_word: u64) -> Sign
+pub fn settle_sign_part(
+    alloc: Global,
+    q: &SymInt,
+    limit: u8,
+    judged: &[Judged],
+    final_word: u64,
+) -> Sign
     requires part { IsFairPart Mode.Sign q.now.size (entry q.now) limit judged.now final_word }
     requires limited { limit ≤ 200 }
     requires fits { Fits q.now.size (entry q.now) unit_vectors }
@@ -154,7 +177,13 @@ pub fn settle_sign_part(alloc: Global, q: &SymInt, limit: u8, judged: &[Judged],
 }
 
 /// The answer of the search for the least value, from a fair list of judgements, in any order, and its final word.
-pub fn settle_least(alloc: Global, q: &SymInt, limit: u8, judged: &[Judged], final_word: u64) -> Least
+pub fn settle_least(
+    alloc: Global,
+    q: &SymInt,
+    limit: u8,
+    judged: &[Judged],
+    final_word: u64,
+) -> Least
     requires fair { IsFair Mode.Least q.now.size (entry q.now) limit judged.now final_word }
     requires limited { limit ≤ 200 }
     requires fits { Fits q.now.size (entry q.now) unit_vectors }

@@ -253,7 +253,7 @@ module _ (m : Mode) (n : ℕ) (q : Matrix) (d : ℕ) (stack front new : List Sho
           let le : length cone.path ≤ d = (h.cones cone on_top).1 in
           let w : cones_left d (front ++ cone ∷ []) ≡ cones_left d front + still d cone = whole in
           let t : still d s.second + still d s.first < still d cone = two_below d (length cone.path) (length s.second.path) (length s.first.path) le ne
-              (ap length s.is_second.path_is ∙ length-append cone.path (true ∷ [])) (ap length s.is_first.path_is ∙ length-append cone.path (false ∷ [])) in
+          (ap length s.is_second.path_is ∙ length-append cone.path (true ∷ [])) (ap length s.is_first.path_is ∙ length-append cone.path (false ∷ [])) in
           let o : cones_left d (front ++ s.second ∷ s.first ∷ []) ≡ cones_left d front + (still d s.second + (still d s.first + 0)) = left-append d front (s.second ∷ s.first ∷ []) in
           rw s.stack (omega arith)
       by (Closed w) g s = gone s

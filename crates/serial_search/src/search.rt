@@ -33,7 +33,13 @@ fn push_children(stack: &mut Vec<Cone>, cone: &Cone, fate: &Fate) -> Result<(), 
 }
 
 /// Searches from the root of a matrix.
-pub fn search(alloc: Global, mode: Mode, q: &SymInt, limit: u8, root: Cone) -> Result<Judgements, AllocError>
+pub fn search(
+    alloc: Global,
+    mode: Mode,
+    q: &SymInt,
+    limit: u8,
+    root: Cone,
+) -> Result<Judgements, AllocError>
     requires limited { limit ≤ 200 }
     requires narrow { IsNarrow mode q.now.size (entry q.now) }
     requires root { IsConeAt q.now.size (entry q.now) [] root }

@@ -17,7 +17,7 @@ fitting_cone-requires-clause-in_tree c = c.requires.in_tree c.j-item.result (c.l
 pub loop-j-preserved : goal.loop-j-preserved
 loop-j-preserved c =
     elim c.if-j-from.branch [
-      then-j-from+in_ok-add_attaining w ↦ rw w.found-is (subst (λ (w' : List Judged). HasGenerators c.args.q.now.size (entry c.args.q.now) w' (pos c.args.minimum) w.add_attaining.new.found.keys)
+      | then-j-from+in_ok-add_attaining w ↦ rw w.found-is (subst (λ (w' : List Judged). HasGenerators c.args.q.now.size (entry c.args.q.now) w' (pos c.args.minimum) w.add_attaining.new.found.keys)
           (more_judged c.args.judged.now c.loop-j.j-index c.j-item.result c.loop-j-test.true c.j-item.is)
           (has_more c.args.q.now.size (entry c.args.q.now) (take c.loop-j.j-index c.args.judged.now) c.j-item.result (pos c.args.minimum) c.loop-j.found.keys w.add_attaining.new.found.keys c.loop-j.invariant w.fitting_cone.result w.fitting_cone.ensures
           (subst (λ (k : ℕ). AddsAttaining w.fitting_cone.result k (pos c.args.minimum) c.loop-j.found.keys w.add_attaining.new.found.keys) w.fitting_cone.ensures.cone.size w.in_ok-add_attaining.ensures)))

@@ -9,9 +9,12 @@ use Rattle.search_core.proofs.WaysDown.{down_more, down_closed, down_open, close
 use Rattle.search_core.proofs.descent.is_unclosed_down.Goals as goal
 
 pub returns-then-closed : goal.returns-then-closed
-returns-then-closed c = (when_false _, λ u. absurd (down_closed c.args.q.now.size (entry c.args.q.now) c.args.bound c.args.path.now c.loop-k.k (omega arith)
-    (closed_at c.args.q.now.size (entry c.args.q.now) (take c.loop-k.k c.args.path.now) c.loop-k.cone c.loop-k.invariant.at_path c.args.bound
-    (rw (read_bound c.args.bound c.requires.low c.requires.high) at (c.if-closed.ensures.0 refl))) u))
+returns-then-closed c = (
+  when_false _,
+  λ u. absurd (down_closed c.args.q.now.size (entry c.args.q.now) c.args.bound c.args.path.now c.loop-k.k (omega arith)
+      (closed_at c.args.q.now.size (entry c.args.q.now) (take c.loop-k.k c.args.path.now) c.loop-k.cone c.loop-k.invariant.at_path c.args.bound
+      (rw (read_bound c.args.bound c.requires.low c.requires.high) at (c.if-closed.ensures.0 refl))) u),
+)
 
 pub next_cone-cone-requires-clause-splits : goal.next_cone-cone-requires-clause-splits
 next_cone-cone-requires-clause-splits c = splits_as_shown c.args.q.now.size (entry c.args.q.now) (take c.loop-k.k c.args.path.now) c.loop-k.cone c.loop-k.invariant.at_path
