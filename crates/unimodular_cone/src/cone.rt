@@ -162,16 +162,15 @@ fn child_with(c: &Cone, r: u8, s: u8, path: Path) -> Result<Cone, ConeFail>
     if let Some(entry) = first_wide(c, &coordinates, &row, r, s) {
         return Err(ConeFail::Wide(WideAt { path, entry }));
     }
-    let mut generators = c.generators;
-    generators[usize::from(r)] = coordinates;
-    let mut gram = c.gram;
-    set_row(&mut gram, &row, r, c.n);
-    Ok(Cone {
+    let mut made = Cone {
         n: c.n,
         path,
-        gram,
-        generators,
-    })
+        gram: c.gram,
+        generators: c.generators,
+    };
+    made.generators[usize::from(r)] = coordinates;
+    set_row(&mut made.gram, &row, r, c.n);
+    Ok(made)
 }
 
 /// Writes row and column r of a lower triangle of n rows, counted from 0.

@@ -9,11 +9,13 @@ use crate::bound_test::entry;
 use crate::cone_read::ConeRead;
 
 /// The least negative entry so far and its place, from 0; the value 0 where there is none.
+///
+/// The numbers of the place fill the struct to a whole multiple of its alignment, so that it is copied without gaps.
 #[derive(Clone, Copy)]
 struct Best {
     value: i128,
-    row: u8,
-    column: u8,
+    row: u64,
+    column: u64,
 }
 
 /// The better of the best so far and one more entry, the earlier one among equals.
@@ -21,7 +23,11 @@ fn better_of(best: Best, value: i128, row: u8, column: u8) -> Best
     ensures { result ≡ better_best best value row column }
 {
     if value < best.value {
-        Best { value, row, column }
+        Best {
+            value,
+            row: u64::from(row),
+            column: u64::from(column),
+        }
     } else {
         best
     }
@@ -58,7 +64,7 @@ pub fn pair<C: ConeRead>(c: &C) -> Option<(u8, u8)>
         best = best_beyond(c, row, n, best);
     }
     if best.value < 0 {
-        Some((best.row + 1, best.column + 1))
+        Some((best.row as u8 + 1, best.column as u8 + 1))
     } else {
         None
     }

@@ -8,8 +8,8 @@ use Rattle.unimodular_cone.specs.Replacement.{IsChildWith}
 use Rattle.unimodular_cone.proofs.Replaced.{made_is_child, made_is_within}
 use Rattle.unimodular_cone.proofs.cone.child_with.Goals as goal
 
-pub invariant_of-result : goal.invariant_of-result
-invariant_of-result c =
+pub invariant_of-made : goal.invariant_of-made
+invariant_of-made c =
     let size : c.c.inside.n ≡ c.args.c.now.size = ap (λ (s : ShownCone). s.size) c.c.view_is in
     let xs : IsMediantOf (shown_of c.c.inside) c.args.r c.args.s c.mediant_coordinates-coordinates.result = subst (λ (s : ShownCone). IsMediantOf s c.args.r c.args.s c.mediant_coordinates-coordinates.result) (sym c.c.view_is) c.mediant_coordinates-coordinates.ensures in
     let row : IsRowOf (shown_of c.c.inside) c.args.r c.args.s c.mediant_row-row.result = subst (λ (s : ShownCone). IsRowOf s c.args.r c.args.s c.mediant_row-row.result) (sym c.c.view_is) c.mediant_row-row.ensures in

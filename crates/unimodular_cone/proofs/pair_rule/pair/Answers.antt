@@ -19,6 +19,20 @@ overflow_add-result-then-best-lt0 g c =
     best_is_pair _ _ _ c.n-n.ensures.size (c.loop-row.invariant.pair ∙ ap (best_in_rows (shown_gram (g.C.ConeRead.cone c.args.c.now)) c.n-n.result) row_end) (tested_negative c.loop-row.best.value (search rules) c.if-best-lt0.true) in
     omega (arith, pair.range, c.n-n.ensures.fits.few)
 
+pub overflow_cast-result : goal.overflow_cast-result
+overflow_cast-result g c =
+    let row_end : c.loop-row.row ≡ c.n-n.result = omega arith in
+    let pair : IsPair (g.C.ConeRead.cone c.args.c.now).size (shown_gram (g.C.ConeRead.cone c.args.c.now)) c.loop-row.best.row c.loop-row.best.column =
+    best_is_pair _ _ _ c.n-n.ensures.size (c.loop-row.invariant.pair ∙ ap (best_in_rows (shown_gram (g.C.ConeRead.cone c.args.c.now)) c.n-n.result) row_end) (tested_negative c.loop-row.best.value (search rules) c.if-best-lt0.true) in
+    omega (arith, pair.order, pair.range, c.n-n.ensures.fits.few)
+
+pub overflow_cast-result-then-best-lt0 : goal.overflow_cast-result-then-best-lt0
+overflow_cast-result-then-best-lt0 g c =
+    let row_end : c.loop-row.row ≡ c.n-n.result = omega arith in
+    let pair : IsPair (g.C.ConeRead.cone c.args.c.now).size (shown_gram (g.C.ConeRead.cone c.args.c.now)) c.loop-row.best.row c.loop-row.best.column =
+    best_is_pair _ _ _ c.n-n.ensures.size (c.loop-row.invariant.pair ∙ ap (best_in_rows (shown_gram (g.C.ConeRead.cone c.args.c.now)) c.n-n.result) row_end) (tested_negative c.loop-row.best.value (search rules) c.if-best-lt0.true) in
+    omega (arith, pair.range, c.n-n.ensures.fits.few)
+
 pub returns-then-best-lt0 : goal.returns-then-best-lt0
 returns-then-best-lt0 g c =
     let row_end : c.loop-row.row ≡ c.n-n.result = omega arith in

@@ -1,0 +1,16 @@
+pub mod LeastValues
+pub mod Settle
+pub mod Fairness
+pub mod Bound
+pub mod Answers
+pub mod Times
+pub mod Kept
+pub mod Finish
+pub mod Serial
+pub mod Laws
+pub mod ShownFates
+pub mod Firsts
+pub mod WaysDown
+pub mod Parts
+pub mod Keys
+pub mod Mirrors

@@ -1,0 +1,122 @@
+-- Ways down from the root to a path of the tree.
+use Rattle.std.specs.Prelude.{◌≡◌, ◌⊎◌, ℕ, ◌<◌, ◌≤◌, ◌+◌, ℤ, pos, ◌≤ℤ◌, ◌-◌, ◌^◌, FitsSigned, Bool, true, false, not, IsTrue, ◌↔◌, nat_eq, Option, Some, None, [], ◌∷◌, ◌++◌, length, take}
+use Rattle.std.specs.Int.{w128}
+use Rattle.std.proofs.lemmas.Int.{ints, to_z-of_z}
+use Rattle.std.proofs.Common.{to_z, of_z, arith, sym, ◌∙◌, ap, refl, inl, inr, subst, length-take-le}
+use Rattle.std.proofs.lemmas.List.{take_more, take_all}
+use Rattle.unimodular_cone.specs.declared.WideAt.{WideAt}
+use Rattle.unimodular_cone.specs.declared.ConeFail.{ConeFail}
+use Rattle.unimodular_cone.specs.declared.ConeFail.TheVariants.{Wide, OutOfMemory}
+use Rattle.unimodular_cone.specs.Paths.{Path, IsAbove, digit_of, digit_at}
+use Rattle.unimodular_cone.specs.Cones.{Matrix, gram, pair_of, unit_vectors, cone_from, cone_at, child_at, Fits}
+use Rattle.unimodular_cone.specs.Tree.{CanSplit, IsInTree, IsClosedAt}
+use Rattle.unimodular_cone.specs.Shown.{ShownCone, IsConeAt, IsNext, IsFirstWide, IsFirstWideAt, IsWideWhere, FitsOnSide, IsReachable}
+use Rattle.unimodular_cone.proofs.Orders.{take_is_above, above_is_take}
+use Rattle.unimodular_cone.proofs.Tree.{above_shorter, cone_at-side, in_tree_above}
+use Rattle.unimodular_cone.proofs.ShownAt.{child_at_path}
+use Rattle.search_core.specs.Scans.{IsUnclosedDown}
+use Rattle.search_core.proofs.Times.{snoc_cases}
+
+-- ---- refusals that do not come
+pub root_not_wide : (n : ℕ) (q : Matrix) (fail : ConeFail) → Fits n q unit_vectors → IsWideWhere (IsFirstWideAt n q []) fail → ⊥
+unfolding cone_from
+root_not_wide n q (Wide at) fits w = fits at.entry w.entry.over
+root_not_wide n q OutOfMemory fits w = w
+
+pub child_not_wide : (c : ShownCone) (i j : ℕ) (side : Bool) (fail : ConeFail) → FitsOnSide c i j side → IsWideWhere (IsFirstWide c i j side) fail → ⊥
+child_not_wide c i j side (Wide at) fits w = fits at.entry w.entry.over
+child_not_wide c i j side OutOfMemory fits w = w
+
+-- ---- the cones of the tree fit
+pub fits_in_tree : (n : ℕ) (q : Matrix) (d : ℕ) (path : Path) → Fits n q unit_vectors → IsInTree n q d path → Fits n q (cone_at n q path)
+unfolding cone_from
+fits_in_tree n q d path root_fits t = by (snoc_cases path)
+  where
+    at_side : (p : Path) (can : CanSplit n q (cone_at n q p)) (side : Bool) → Fits n q (child_at (Some (can.i, can.j)) (cone_at n q p) side)
+    at_side p can false = can.first_fits
+    at_side p can true = can.second_fits
+
+    by : ((path ≡ []) ⊎ ((p : Path) × (side : Bool) × (path ≡ p ++ side ∷ []))) → Fits n q (cone_at n q path)
+    by (inl e) = subst (λ (p : Path). Fits n q (cone_at n q p)) (sym e) root_fits
+    by (inr (p, side, e)) =
+        let can : CanSplit n q (cone_at n q p) = t.above p (side, [], e) in
+        subst (λ (r : Path). Fits n q (cone_at n q r)) (sym e) (rw (cone_at-side n q p side (Some (can.i, can.j)) can.pair) (at_side p can side))
+
+pub reachable : (n : ℕ) (q : Matrix) (d : ℕ) (path : Path) → Fits n q unit_vectors → IsInTree n q d path → IsReachable n q path
+reachable n q d path root_fits t = record {
+  pair = λ a above none. no_pair a (t.above a above) none;
+  fits = λ a above. fits_in_tree n q d a root_fits (in_tree_above n q d a path t above);
+}
+  where
+    no_pair : (a : Path) (can : CanSplit n q (cone_at n q a)) → pair_of n (gram n q (cone_at n q a)) ≡ None → ⊥
+    no_pair a can none = let e : ◌≡◌ {A = Option (ℕ × ℕ)} None (Some (can.i, can.j)) = sym none ∙ can.pair in cc
+
+pub path_not_wide : (n : ℕ) (q : Matrix) (d : ℕ) (path : Path) (fail : ConeFail) → Fits n q unit_vectors → IsInTree n q d path → IsWideWhere (IsFirstWideAt n q path) fail → ⊥
+path_not_wide n q d path (Wide at) fits t w = fits_in_tree n q d path fits t at.entry w.entry.over
+path_not_wide n q d path OutOfMemory fits t w = w
+
+-- ---- the way down
+digit_back : (b : Bool) → nat_eq (digit_of b) 1 ≡ b
+digit_back false = refl
+digit_back true = refl
+
+pub digit_small : (b : Bool) → digit_of b < 2
+digit_small false = omega arith
+digit_small true = omega arith
+
+-- k digits down, and no cone above is closed
+pub record IsDownAt (n : ℕ) (q : Matrix) (b : ℤ) (path : Path) (k : ℕ) (c : ShownCone) : Type 0 where
+  pub at_path : IsConeAt n q (take k path) c
+  pub unclosed : (i : ℕ) → i < k → ¬ IsClosedAt n q (take i path) b
+
+pub down_at_root : (n : ℕ) (q : Matrix) (b : ℤ) (path : Path) (c : ShownCone) → IsConeAt n q [] c → IsDownAt n q b path 0 c
+down_at_root n q b path c h = record { at_path = h; unclosed = λ i l. absurd (omega arith) }
+
+pub down_more : (n : ℕ) (q : Matrix) (b : ℤ) (path : Path) (k : ℕ) (c r : ShownCone) → k < length path → IsDownAt n q b path k c → (¬ IsClosedAt n q (take k path) b)
+    → IsNext c (nat_eq (digit_of (digit_at path k)) 1) r → IsDownAt n q b path (k + 1) r
+down_more n q b path k c r l h unclosed next = record {
+  at_path = subst (λ (p : Path). IsConeAt n q p r) more (child_at_path n q (take k path) c h.at_path next.i next.j (nat_eq (digit_of (digit_at path k)) 1) r next.pair next.child);
+  unclosed = λ i li. by i (last i li);
+}
+  where
+    more : take k path ++ nat_eq (digit_of (digit_at path k)) 1 ∷ [] ≡ take (k + 1) path
+    more = ap (λ (b : Bool). take k path ++ b ∷ []) (digit_back (digit_at path k)) ∙ sym (take_more path k false l)
+
+    last : (i : ℕ) → i < k + 1 → (i < k) ⊎ (i ≡ k)
+    last i l = grind arith
+
+    by : (i : ℕ) → ((i < k) ⊎ (i ≡ k)) → ¬ IsClosedAt n q (take i path) b
+    by i (inl lt) = h.unclosed i lt
+    by i (inr e) = subst (λ (m : ℕ). ¬ IsClosedAt n q (take m path) b) (sym e) unclosed
+
+pub down_closed : (n : ℕ) (q : Matrix) (b : ℤ) (path : Path) (k : ℕ) → k < length path → IsClosedAt n q (take k path) b → ¬ IsUnclosedDown n q b path
+down_closed n q b path k l closed u = u.above (take k path) (take_is_above path k l) closed
+
+pub down_open : (n : ℕ) (q : Matrix) (b : ℤ) (path : Path) (k : ℕ) (c : ShownCone) → k ≡ length path → IsDownAt n q b path k c → (¬ IsClosedAt n q (take k path) b) → IsUnclosedDown n q b path
+down_open n q b path k c e h unclosed = record {
+  itself = subst (λ (p : Path). ¬ IsClosedAt n q p b) (whole path k e) unclosed;
+  above = λ a above. let l : length a < length path = above_shorter a path above in
+      subst (λ (p : Path). ¬ IsClosedAt n q p b) (sym (above_is_take a path above)) (h.unclosed (length a) (omega arith));
+}
+  where
+    whole : (p : Path) (k : ℕ) → k ≡ length p → take k p ≡ p
+    whole p k e = take_all k p (omega arith)
+
+pub closed_itself : (n : ℕ) (q : Matrix) (b : ℤ) (path : Path) (k : ℕ) → k ≡ length path → IsClosedAt n q (take k path) b → ¬ IsUnclosedDown n q b path
+closed_itself n q b path k e closed u = u.itself (subst (λ (p : Path). IsClosedAt n q p b) (take_all k path (omega arith)) closed)
+
+-- ---- tests
+pub when_false : (P : Type 0) → IsTrue false → P
+when_false P e = absurd (cc)
+
+pub not_test : (r : Bool) (P Q : Type 0) → (IsTrue r ↔ P) → ((¬ P) → Q) → (P → ¬ Q) → IsTrue (not r) ↔ Q
+not_test true P Q h yes_q no_q = (when_false Q, λ x. absurd (no_q (h.0 refl) x))
+not_test false P Q h yes_q no_q = ((λ _. yes_q (λ x. when_false ⊥ (h.1 x))), λ _. refl)
+
+-- a bound that was handed on
+pub read_bound : (b : ℤ) → pos 0 ≤ℤ b → b ≤ℤ pos (2 ^ 64 - 1) → to_z w128 (of_z w128 b) ≡ b
+read_bound b low high = let fits : FitsSigned w128 b = omega (arith, ints) in to_z-of_z w128 b fits
+
+-- numbers of 128 bits whose bits are the same
+pub same_when_read : (a b : ℤ) → FitsSigned w128 a → FitsSigned w128 b → of_z w128 a ≡ of_z w128 b → a ≡ b
+same_when_read a b fa fb e = sym (to_z-of_z w128 a fa) ∙ ap (to_z w128) e ∙ to_z-of_z w128 b fb

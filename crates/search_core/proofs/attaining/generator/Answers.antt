@@ -1,0 +1,4 @@
+use Rattle.search_core.proofs.attaining.generator.Goals as goal
+
+pub vector_of-requires-clause-small : goal.vector_of-requires-clause-small
+vector_of-requires-clause-small g c = rw c.n.ensures.size c.key_of.ensures.key.small

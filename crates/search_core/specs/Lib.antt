@@ -1,0 +1,7 @@
+pub mod Fair
+pub mod Judging
+pub mod Answers
+pub mod Machine
+pub mod Scans
+pub mod Attaining
+pub mod Ends

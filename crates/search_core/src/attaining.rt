@@ -1,0 +1,143 @@
+//! The generators that attain a value.
+
+ghost use Rattle.std.specs.Prelude.{◌≡◌, ◌≤◌, ◌<◌, ◌-◌, ◌^◌, ℕ, pos, List, take, map, IfOk, OnOk, slice_index_or};
+ghost use Rattle.std.specs.List.{Contains};
+ghost use Rattle.symmetric_matrix.specs.Symmetric.{entry};
+ghost use Rattle.unimodular_cone.specs.Cones.{unit_vectors, Fits};
+ghost use Rattle.unimodular_cone.specs.Tree.{IsInTree};
+ghost use Rattle.unimodular_cone.specs.Answer.{IsVector};
+ghost use Rattle.unimodular_cone.specs.Shown.{IsConeAt, IsWithinLimits, shown_generators};
+ghost use Rattle.search_core.specs.Attaining.{IsKeyOf, IsWithKey, AddsAttaining, HasGenerators, AreKeys, IsVectorsOf, ListsGenerators};
+ghost use Rattle.search_core.specs.Scans.{AreInTree};
+
+use crate::fate::Judged;
+use std::alloc::{AllocError, Global};
+use std::collections::BTreeSet;
+use symmetric_matrix::{IntVector, SymInt, VectorList};
+use unimodular_cone::{Cone, ConeRead, Path, at_path};
+
+/// A generator's coordinates, with zeros past them, so that keys are in the vectors' order.
+type Key = [u64; 8];
+
+/// The key of a generator that counts from 1.
+fn key_of<C: ConeRead>(c: &C, k: u8) -> Key
+    requires first { 1 ≤ k }
+    requires last { k ≤ (C.cone c.now).size }
+    ensures fits { IsWithinLimits (C.cone c.now) }
+    ensures key { IsKeyOf (C.cone c.now) (k - 1) result }
+{
+    let n = c.n();
+    let mut key = [0; 8];
+    for p in 0..n {
+        key[usize::from(p)] = c.coordinate(k, p + 1);
+    }
+    key
+}
+
+/// The vector of the first n numbers of a key.
+fn vector_of(alloc: Global, n: u8, key: &Key) -> IntVector
+    requires some { 1 ≤ n }
+    requires few { n ≤ 8 }
+    requires small { (p : ℕ) → p < n → slice_index_or key.now p 0 ≤ 2 ^ 62 }
+    ensures { result ≡ take n key.now }
+{
+    IntVector::from_slice(alloc, &key[..usize::from(n)])
+}
+
+/// A generator that counts from 1, as a vector.
+pub(crate) fn generator<C: ConeRead>(alloc: Global, c: &C, k: u8) -> IntVector
+    requires first { 1 ≤ k }
+    requires last { k ≤ (C.cone c.now).size }
+    ensures { IsVector (C.cone c.now).size result (shown_generators (C.cone c.now) (k - 1)) }
+{
+    vector_of(alloc, c.n(), &key_of(c, k))
+}
+
+/// Puts a key into a set.
+fn add_key(found: &mut BTreeSet<Key>, key: Key) -> Result<(), AllocError>
+    ensures { OnOk result (IsWithKey found.old.keys key found.new.keys) }
+{
+    found.insert(key)?;
+    Ok(())
+}
+
+/// Puts the keys of a cone's generators of this value into a set.
+fn add_attaining<C: ConeRead>(
+    c: &C,
+    minimum: u64,
+    found: &mut BTreeSet<Key>,
+) -> Result<(), AllocError>
+    ensures { OnOk result (AddsAttaining (C.cone c.now) (C.cone c.now).size (pos minimum) found.old.keys found.new.keys) }
+{
+    let n = c.n();
+    for k in 0..n {
+        if c.gram(k + 1, k + 1) == i128::from(minimum) {
+            add_key(found, key_of(c, k + 1))?;
+        }
+    }
+    Ok(())
+}
+
+/// The cone at a path of the tree, whose root fits. The tree's depth is `limit`.
+pub(crate) fn fitting_cone(q: &SymInt, limit: u8, path: &Path) -> Cone
+    requires in_tree { IsInTree q.now.size (entry q.now) limit path.now }
+    requires fits { Fits q.now.size (entry q.now) unit_vectors }
+    ensures { IsConeAt q.now.size (entry q.now) path.now result }
+{
+    match at_path(q, path) {
+        Ok(cone) => cone,
+        Err(_) => unreachable!(),
+    }
+}
+
+/// The keys of the generators of this value of the judgements whose least value it is.
+fn keys_attaining(
+    alloc: Global,
+    q: &SymInt,
+    limit: u8,
+    judged: &[Judged],
+    minimum: u64,
+) -> Result<BTreeSet<Key>, AllocError>
+    requires in_tree { AreInTree q.now.size (entry q.now) limit judged.now }
+    requires fits { Fits q.now.size (entry q.now) unit_vectors }
+    ensures { IfOk result (λ found. HasGenerators q.now.size (entry q.now) judged.now (pos minimum) found.keys) }
+{
+    let mut found: BTreeSet<Key> = BTreeSet::new(alloc);
+    for j in judged {
+        if j.least == i128::from(minimum) {
+            add_attaining(&fitting_cone(q, limit, &j.path), minimum, &mut found)?;
+        }
+    }
+    Ok(found)
+}
+
+/// The vectors of a set of keys, in its order.
+fn listed(alloc: Global, n: u8, keys: BTreeSet<Key>) -> Result<VectorList, AllocError>
+    requires some { 1 ≤ n }
+    requires few { n ≤ 8 }
+    requires keys { AreKeys n keys.keys }
+    ensures { IfOk result (IsVectorsOf n keys.keys) }
+{
+    let mut list = VectorList::new(alloc);
+    let mut rest = keys;
+    while let Some(key) = rest.pop_first() {
+        list.push(&vector_of(alloc, n, &key))?;
+    }
+    Ok(list)
+}
+
+/// The generators of this value of the judgements whose least value it is, in increasing order, each once.
+pub(crate) fn attaining(
+    alloc: Global,
+    q: &SymInt,
+    limit: u8,
+    judged: &[Judged],
+    minimum: u64,
+) -> Result<VectorList, AllocError>
+    requires in_tree { AreInTree q.now.size (entry q.now) limit judged.now }
+    requires fits { Fits q.now.size (entry q.now) unit_vectors }
+    ensures { IfOk result (ListsGenerators q.now.size (entry q.now) judged.now (pos minimum)) }
+{
+    let found = keys_attaining(alloc, q, limit, judged, minimum)?;
+    listed(alloc, q.n(), found)
+}

@@ -1,0 +1,112 @@
+//! The fate of a cone under a word.
+
+ghost use Rattle.std.specs.Prelude.{◌≡◌, ◌≤◌, ◌<◌, ◌-◌, ℕ, suc, length, Some, MatchOption, OnOk, OnErr};
+ghost use Rattle.unimodular_cone.specs.Shown.{IsWithinLimits};
+ghost use Rattle.search_core.specs.Judging.{shown_code, IsLowShown, IsFirstLowShown, IsClosedShown, IsUndecidedShown, IsShownFate, IsJudgementOf};
+ghost use Rattle.std.specs.Bool.{MatchBool};
+ghost use Rattle.search_core.specs.Fair.{IsUntold, IsKeptOrUntold};
+
+use crate::fate::{Fate, Judged};
+use crate::words::{bound_under, is_low_value};
+use std::alloc::AllocError;
+use unimodular_cone::{ConeRead, Mode, children_fit, closed, least_value, pair};
+
+/// The first low generator of a cone, counted from 1.
+fn first_low<C: ConeRead>(mode: Mode, c: &C) -> Option<u8>
+    ensures fits { IsWithinLimits (C.cone c.now) }
+    ensures low { MatchOption result (¬ IsLowShown mode (C.cone c.now)) (λ which. (k : ℕ) × (which ≡ suc k) × IsFirstLowShown mode (C.cone c.now) k) }
+{
+    let n = c.n();
+    for k in 0..n {
+        if is_low_value(mode, c.gram(k + 1, k + 1)) {
+            return Some(k + 1);
+        }
+    }
+    None
+}
+
+/// The fate of a cone that is neither low nor closed nor dropped: it is at the limit, a child does not fit, or it is split.
+fn undecided_fate<C: ConeRead>(mode: Mode, c: &C, limit: u8, word: u64) -> Fate
+    requires fits { IsWithinLimits (C.cone c.now) }
+    requires below_code { word ≤ shown_code mode (C.cone c.now) }
+    requires limited { limit ≤ 200 }
+    requires within { length (C.cone c.now).path ≤ limit }
+    requires undecided { IsUndecidedShown mode (C.cone c.now) word }
+    ensures { IsShownFate mode (C.cone c.now) limit word result }
+{
+    if c.path().len() == limit {
+        return Fate::AtLimit { word };
+    }
+    let Some((i, j)) = pair(c) else {
+        unreachable!()
+    };
+    match children_fit(c, i, j) {
+        Some(at) => Fate::Wide { word, at },
+        None => Fate::Split { i, j, word },
+    }
+}
+
+/// The fate of a cone under a word, with a limit of depth: the first that applies of these. The word is a depth that is
+/// less than the cone's: Dropped. A generator is low: Low. The cone is closed at the word's bound: Closed. The word is the
+/// cone's depth: Dropped. The depth is the limit: AtLimit. A child does not fit: Wide. Else Split, at the cone's pair.
+pub fn judge<C: ConeRead>(mode: Mode, c: &C, limit: u8, word: u64) -> Fate
+    requires below_code { word ≤ shown_code mode (C.cone c.now) }
+    requires limited { limit ≤ 200 }
+    requires within { length (C.cone c.now).path ≤ limit }
+    ensures { IsShownFate mode (C.cone c.now) limit word result }
+{
+    let depth = c.path().len();
+    if word < u64::from(depth) {
+        return Fate::Dropped { word };
+    }
+    if let Some(which) = first_low(mode, c) {
+        return Fate::Low { which };
+    }
+    if closed(c, i128::from(bound_under(mode, word))) {
+        return Fate::Closed { word };
+    }
+    if word == u64::from(depth) {
+        return Fate::Dropped { word };
+    }
+    undecided_fate(mode, c, limit, word)
+}
+
+/// The judgement of a cone under a word, with a limit of depth.
+pub fn judgement<C: ConeRead>(mode: Mode, c: &C, limit: u8, word: u64) -> Judged
+    requires below_code { word ≤ shown_code mode (C.cone c.now) }
+    requires limited { limit ≤ 200 }
+    requires within { length (C.cone c.now).path ≤ limit }
+    ensures { IsJudgementOf mode (C.cone c.now) limit word result }
+{
+    Judged {
+        path: c.path(),
+        fate: judge(mode, c, limit, word),
+        least: least_value(c),
+    }
+}
+
+/// Whether an answer may look at a judgement that was made under this word: it is low, it is an end of the tree, or its
+/// least value is at most the word's bound.
+pub fn tells(mode: Mode, j: &Judged, word: u64) -> bool
+    ensures { MatchBool result (Unit {0}) (IsUntold mode word j.now) }
+{
+    match j.fate {
+        Fate::Low { .. } | Fate::AtLimit { .. } | Fate::Wide { .. } => true,
+        Fate::Closed { .. } | Fate::Split { .. } | Fate::Dropped { .. } => match mode {
+            Mode::Sign => false,
+            Mode::Least => j.least <= i128::from(bound_under(mode, word)),
+        },
+    }
+}
+
+/// Keeps a judgement that was made under this word, if an answer may look at it. After a refusal the list is as before.
+pub fn keep(judged: &mut Vec<Judged>, mode: Mode, j: Judged, word: u64) -> Result<(), AllocError>
+    ensures kept { OnOk result (IsKeptOrUntold mode word j judged.old.items judged.new.items) }
+    ensures err { OnErr result (judged.new.items ≡ judged.old.items) }
+{
+    let Judged { path, fate, least } = j;
+    if tells(mode, &j, word) {
+        judged.push(Judged { path, fate, least })?;
+    }
+    Ok(())
+}

@@ -1,0 +1,21 @@
+//! The core of a search: the fate of a cone, fair lists of judgements, and what they settle to.
+#![tactic(auto)]
+
+mod answer;
+mod attaining;
+mod descent;
+mod fate;
+mod judging;
+mod scan;
+mod searcher;
+mod settling;
+mod words;
+
+pub use answer::{Least, Sign};
+pub use descent::{fitting_child, fitting_root};
+pub use fate::{Fate, Judged};
+pub use judging::{judge, judgement, keep, tells};
+pub use searcher::Searcher;
+pub use settling::{settle_least, settle_least_part, settle_sign, settle_sign_part};
+pub use unimodular_cone::Mode;
+pub use words::{code, least_diagonal, start_word};

@@ -1,0 +1,7 @@
+//! The search on one thread.
+#![tactic(auto)]
+
+mod search;
+mod searcher;
+
+pub use searcher::SerialSearcher;

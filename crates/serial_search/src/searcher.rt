@@ -1,0 +1,95 @@
+//! The searcher on one thread.
+
+ghost use Rattle.std.specs.Prelude.{◌≡◌, ◌≢◌, ◌≤◌, ◌<◌, ◌^◌, ◌-◌, ◌<ℤ◌, pos, MatchOption};
+ghost use Rattle.symmetric_matrix.specs.Symmetric.{entry};
+ghost use Rattle.unimodular_cone.specs.Answer.{IsNarrow, IsLeastDiagonal};
+ghost use Rattle.unimodular_cone.specs.declared.ConeFail.TheVariants.{Wide, OutOfMemory};
+ghost use Rattle.search_core.specs.Answers.{IsLeastAnswer, IsSignAnswer};
+
+use crate::search::search;
+use search_core::{Least, Searcher, Sign, least_diagonal, settle_least_part, settle_sign_part};
+use std::alloc::Global;
+use symmetric_matrix::SymInt;
+use unimodular_cone::{ConeFail, Mode, WideAt, root};
+
+/// A searcher on one thread: depth first, child 0 before child 1, under the falling word. It always returns.
+#[derive(Drop)]
+pub struct SerialSearcher {
+    alloc: Global,
+}
+
+impl SerialSearcher {
+    /// A searcher. It takes no memory until it searches.
+    pub fn new(alloc: Global) -> SerialSearcher {
+        SerialSearcher { alloc }
+    }
+}
+
+impl Searcher for SerialSearcher {
+    fn least(&mut self, q: &SymInt, limit: u8) -> Least {
+        match bound_wide(q) {
+            Some(diagonal) => Least::BoundWide { diagonal },
+            None => least_within(self.alloc, q, limit),
+        }
+    }
+
+    fn sign(&mut self, q: &SymInt, limit: u8) -> Sign {
+        sign_within(self.alloc, q, limit)
+    }
+}
+
+/// The least diagonal entry, where it is over 2^63 - 1.
+fn bound_wide(q: &SymInt) -> Option<i128>
+    ensures { MatchOption result (IsNarrow Mode.Least q.now.size (entry q.now)) (λ z. IsLeastDiagonal q.now.size (entry q.now) z × (pos (2 ^ 63 - 1) <ℤ z)) }
+{
+    let least = least_diagonal(q);
+    if least > (1 << 63) - 1 {
+        Some(least)
+    } else {
+        None
+    }
+}
+
+/// The entry over its limit that a refusal names.
+fn wide_entry(fail: ConeFail) -> WideAt
+    requires { fail ≢ OutOfMemory }
+    ensures { fail ≡ Wide result }
+{
+    match fail {
+        ConeFail::Wide(at) => at,
+        ConeFail::OutOfMemory => unreachable!(),
+    }
+}
+
+/// The least value of a matrix whose least diagonal entry is at most 2^63 - 1.
+fn least_within(alloc: Global, q: &SymInt, limit: u8) -> Least
+    requires limited { limit ≤ 200 }
+    requires narrow { IsNarrow Mode.Least q.now.size (entry q.now) }
+    ensures { IsLeastAnswer q.now.size (entry q.now) limit result }
+{
+    match root(q) {
+        Err(fail) => Least::Wide {
+            at: wide_entry(fail),
+        },
+        Ok(cone) => match search(alloc, Mode::Least, q, limit, cone) {
+            Ok(found) => settle_least_part(alloc, q, limit, &found.judged, found.final_word),
+            Err(_) => Least::OutOfMemory,
+        },
+    }
+}
+
+/// Whether some value is below 0.
+fn sign_within(alloc: Global, q: &SymInt, limit: u8) -> Sign
+    requires { limit ≤ 200 }
+    ensures { IsSignAnswer q.now.size (entry q.now) limit result }
+{
+    match root(q) {
+        Err(fail) => Sign::Wide {
+            at: wide_entry(fail),
+        },
+        Ok(cone) => match search(alloc, Mode::Sign, q, limit, cone) {
+            Ok(found) => settle_sign_part(alloc, q, limit, &found.judged, found.final_word),
+            Err(_) => Sign::OutOfMemory,
+        },
+    }
+}
