@@ -8,3 +8,6 @@ pub mod Choices
 pub mod Weighing
 pub mod Placing
 pub mod SquareLists
+pub mod Meaning
+pub mod SquareColumns
+pub mod Right

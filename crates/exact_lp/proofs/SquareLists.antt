@@ -115,7 +115,7 @@ pub squares_at : (vectors : List (List ℕ)) (k : ℕ) (d : Symmetric) → k < l
 unfolding squares
 squares_at vectors k d l = get_or-map-range_with_len (λ k. square (slice_index_or vectors k [])) 0 (length vectors) k k d l (omega arith)
 
-at_end : (xs : List Symmetric) (s : Symmetric) → get_or (xs ++ s ∷ []) (length xs) no_matrix ≡ s
+pub at_end : (xs : List Symmetric) (s : Symmetric) → get_or (xs ++ s ∷ []) (length xs) no_matrix ≡ s
 at_end [] s = refl
 at_end (x ∷ xs) s = at_end xs s
 

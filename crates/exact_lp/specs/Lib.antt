@@ -2,3 +2,4 @@ pub mod Program
 pub mod Rule
 pub mod Placement
 pub mod Squares
+pub mod Weights

@@ -8,8 +8,8 @@ ghost use Rattle.exact_linear.specs.Columns.{IsLastFree};
 ghost use Rattle.exact_linear.specs.Exchange.{entry_is_owed, exchange_ops, exchanged};
 ghost use Rattle.exact_lp.specs.Rule.{target, AreColumns};
 ghost use Rattle.exact_lp.specs.Placement.{Problem, opened, opened_ops, leaving as the_leaving, step_ops, stepped, exchange_of, IsSteppedOption, IsLeft, IsPlaced};
-ghost use Rattle.exact_forms.specs.Copositive.{IsPerfect};
 ghost use Rattle.exact_lp.specs.Squares.{problem_of};
+ghost use Rattle.exact_lp.specs.Weights.{IsSound};
 
 use crate::ends::{inside, outside};
 use crate::lists::Exchanges;
@@ -155,15 +155,15 @@ fn place_on(alloc: Global, start: Tableau, vectors: usize, d: Fraction, budget: 
 /// Whether S/d is a nonnegative combination of the matrices v·vᵗ of the vectors, by the simplex rule with at most `budget`
 /// steps.
 ///
-/// The vectors have as many coordinates as S has rows, their matrices span all symmetric matrices of that size (only the zero
-/// matrix Z has Z\[v\] = 0 at each vector), and d is at least 1. The answer is `Pivots` exactly where another step is due after
+/// The vectors have as many coordinates as S has rows, and d is at least 1. Where their matrices span all symmetric matrices
+/// of that size, an answer comes but for want of memory. The answer is `Pivots` exactly where another step is due after
 /// `budget` of them and no operation up to then is owed, and `Wide` exactly where that operation is the first owed one after
 /// the steps. Want of memory may come at any time.
 pub fn place(alloc: Global, vectors: &VectorList, s: &SymInt, d: i128, budget: u32) -> Placed
     requires one_length { (k : ℕ) → k < length vectors.now → length (slice_index_or vectors.now k []) ≡ s.now.size }
-    requires spans { IsPerfect s.now.size vectors.now }
     requires positive { pos 1 ≤ℤ d }
     ensures answer { IsPlaced (problem_of vectors.now s.now d) budget result }
+    ensures sound { IsSound s.now.size vectors.now s.now d result }
 {
     let (_n, vectors_len) = (s.n(), vectors.len());
     match start(alloc, vectors, s) {

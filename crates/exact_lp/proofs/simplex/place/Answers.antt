@@ -3,6 +3,7 @@ use Rattle.std.proofs.lemmas.Int.{to_z-of_z}
 use mir.Syntax.{w128}
 use mir.Val.{SFits}
 use Rattle.exact_forms.specs.Rational.{whole}
+use Rattle.exact_lp.proofs.Right.{sound}
 use Rattle.exact_lp.proofs.SquareLists.{start_is, divisor, placed_as}
 use Rattle.exact_lp.proofs.simplex.place.Goals as goal
 
@@ -21,7 +22,11 @@ whole_is d h = ap whole (to_z-of_z w128 d h)
 pub place_on-requires-clause-divisor : goal.place_on-requires-clause-divisor
 place_on-requires-clause-divisor c = λ e. divisor c.args.d c.requires.positive (sym (c.whole.ensures ∙ whole_is c.args.d (search rules)) ∙ e)
 
-pub returns-in-Ok : goal.returns-in-Ok
-returns-in-Ok c = record {
-  answer = placed_as c.in-Ok.tableau _ c.len-vectors_len.result _ c.whole.result _ c.args.budget c.place_on.result c.in-Ok.ensures c.len-vectors_len.ensures.value (c.whole.ensures ∙ whole_is c.args.d (search rules)) c.place_on.ensures;
-}
+pub returns-in-Ok-clause-answer : goal.returns-in-Ok-clause-answer
+returns-in-Ok-clause-answer c =
+    placed_as c.in-Ok.tableau _ c.len-vectors_len.result _ c.whole.result _ c.args.budget c.place_on.result c.in-Ok.ensures c.len-vectors_len.ensures.value (c.whole.ensures ∙ whole_is c.args.d (search rules)) c.place_on.ensures
+
+pub returns-in-Ok-clause-sound : goal.returns-in-Ok-clause-sound
+returns-in-Ok-clause-sound c =
+    sound c.args.vectors.now c.args.s.now c.args.d c.args.budget c.place_on.result c.n-n.ensures.matrix.positive c.requires.positive c.requires.one_length
+    (placed_as c.in-Ok.tableau _ c.len-vectors_len.result _ c.whole.result _ c.args.budget c.place_on.result c.in-Ok.ensures c.len-vectors_len.ensures.value (c.whole.ensures ∙ whole_is c.args.d (search rules)) c.place_on.ensures)
