@@ -3,5 +3,7 @@
 
 mod search;
 mod searcher;
+#[cfg(test)]
+mod tests;
 
 pub use searcher::SerialSearcher;

@@ -1,0 +1,177 @@
+//! Searches of small matrices, with answers that were worked out by hand.
+
+ghost use Rattle.std.specs.Prelude.{◌≡◌, ◌≤◌, ◌^◌, nat_abs};
+
+use crate::SerialSearcher;
+use search_core::{Least, Searcher, Sign};
+use std::alloc::Global;
+use std::process::Abort;
+use std::test::Fail;
+use symmetric_matrix::{IntVector, SymInt, VectorList};
+use unimodular_cone::{Path, WideEntry};
+
+/// The matrix `a b / b c`.
+fn two(alloc: Global, a: i128, b: i128, c: i128) -> Result<SymInt, Fail>
+    requires first { nat_abs a ≤ 2 ^ 126 }
+    requires beside { nat_abs b ≤ 2 ^ 126 }
+    requires last { nat_abs c ≤ 2 ^ 126 }
+{
+    Ok(SymInt::from_lower(alloc, 2, &[a, b, c])?)
+}
+
+/// The matrix of three rows with this lower triangle.
+fn three(alloc: Global, a: i16, b: i16, c: i16, d: i16, e: i16, f: i16) -> Result<SymInt, Fail> {
+    let lower = [
+        i128::from(a),
+        i128::from(b),
+        i128::from(c),
+        i128::from(d),
+        i128::from(e),
+        i128::from(f),
+    ];
+    Ok(SymInt::from_lower(alloc, 3, &lower)?)
+}
+
+fn assert_path(rt: &impl Abort, path: &Path, digits: &[u8]) {
+    assert_eq!(rt; usize::from(path.len()), digits.len());
+    for k in 0..path.len() {
+        assert_eq!(rt; digits.get(usize::from(k)).copied(), Some(path.digit(k)));
+    }
+}
+
+fn assert_vector(rt: &impl Abort, vector: &IntVector, coordinates: &[u64]) {
+    assert_eq!(rt; vector.as_slice(), coordinates);
+}
+
+/// The vectors of a list, one after the other.
+fn assert_vectors(rt: &impl Abort, vectors: &VectorList, coordinates: &[u64]) {
+    let mut left = coordinates.iter();
+    for k in 0..vectors.len() {
+        let vector = vectors.at(k);
+        for place in 0..vector.len() {
+            assert_eq!(rt; left.next().copied(), Some(vector.at(place + 1)));
+        }
+    }
+    assert!(rt; left.next().is_none());
+}
+
+fn assert_found(rt: &impl Abort, answer: &Least, least: i128, coordinates: &[u64]) {
+    match answer {
+        Least::Found { minimum, vectors } => {
+            assert_eq!(rt; *minimum, least);
+            assert_vectors(rt, vectors, coordinates);
+        }
+        _ => assert!(rt; false),
+    }
+}
+
+fn assert_least_depth(rt: &impl Abort, answer: &Least, digits: &[u8]) {
+    match answer {
+        Least::Depth { path } => assert_path(rt, path, digits),
+        _ => assert!(rt; false),
+    }
+}
+
+fn assert_sign_depth(rt: &impl Abort, answer: &Sign, digits: &[u8]) {
+    match answer {
+        Sign::Depth { path } => assert_path(rt, path, digits),
+        _ => assert!(rt; false),
+    }
+}
+
+fn assert_least_wide(rt: &impl Abort, answer: &Least, digits: &[u8]) {
+    match answer {
+        Least::Wide { at } => {
+            assert_path(rt, &at.path, digits);
+            assert_eq!(rt; at.entry, WideEntry::Gram { row: 1, column: 1 });
+        }
+        _ => assert!(rt; false),
+    }
+}
+
+fn assert_sign_low(
+    rt: &impl Abort,
+    answer: &Sign,
+    least: i128,
+    digits: &[u8],
+    coordinates: &[u64],
+) {
+    match answer {
+        Sign::Low {
+            vector,
+            value,
+            path,
+        } => {
+            assert_eq!(rt; *value, least);
+            assert_path(rt, path, digits);
+            assert_vector(rt, vector, coordinates);
+        }
+        _ => assert!(rt; false),
+    }
+}
+
+#[test]
+fn least_values(rt: HostRuntime) -> Result<(), Fail> {
+    let alloc = rt.alloc();
+    let mut searcher = SerialSearcher::new(alloc);
+    let chain = three(alloc, 2, -1, 2, 0, -1, 2)?;
+    let vectors = [0, 0, 1, 0, 1, 0, 0, 1, 1, 1, 0, 0, 1, 1, 0, 1, 1, 1];
+    assert_found(&rt, &searcher.least(&chain, 60), 2, &vectors);
+    let deep = three(alloc, 10, -6, 4, -7, 5, 20)?;
+    assert_least_depth(&rt, &searcher.least(&deep, 1), &[0]);
+    assert_least_depth(&rt, &searcher.least(&deep, 2), &[1, 0]);
+    assert_found(&rt, &searcher.least(&deep, 3), 2, &[1, 1, 0, 1, 2, 0]);
+    let small = two(alloc, 2, -3, 6)?;
+    assert_least_depth(&rt, &searcher.least(&small, 1), &[1]);
+    assert_found(&rt, &searcher.least(&small, 2), 2, &[1, 0, 1, 1, 2, 1]);
+    Ok(())
+}
+
+#[test]
+fn low_values(rt: HostRuntime) -> Result<(), Fail> {
+    let alloc = rt.alloc();
+    let mut searcher = SerialSearcher::new(alloc);
+    match searcher.least(&two(alloc, 1, -1, 1)?, 60) {
+        Least::Low {
+            vector,
+            value,
+            path,
+        } => {
+            assert_eq!(rt; value, 0);
+            assert_path(&rt, &path, &[0]);
+            assert_vector(&rt, &vector, &[1, 1]);
+        }
+        _ => assert!(rt; false),
+    }
+    let ray = two(alloc, 0, -1, 2)?;
+    assert_sign_low(&rt, &searcher.sign(&ray, 2), -2, &[1, 0], &[2, 1]);
+    assert_sign_depth(&rt, &searcher.sign(&ray, 1), &[1]);
+    let other = two(alloc, 2, -1, 0)?;
+    assert_sign_low(&rt, &searcher.sign(&other, 60), -2, &[0, 0], &[1, 2]);
+    assert_sign_depth(&rt, &searcher.sign(&other, 1), &[0]);
+    match searcher.sign(&two(alloc, 0, 1, 0)?, 60) {
+        Sign::Copositive => {}
+        _ => assert!(rt; false),
+    }
+    Ok(())
+}
+
+/// 2^100, the limit of Gram entries.
+const LARGEST: i128 = 1267650600228229401496703205376;
+
+#[test]
+fn entries_over_their_limits(rt: HostRuntime) -> Result<(), Fail> {
+    let alloc = rt.alloc();
+    let mut searcher = SerialSearcher::new(alloc);
+    // The entry of child 0 at (1, 1) is 2^100 + 2.
+    let large = two(alloc, LARGEST, -1, 4)?;
+    assert_least_wide(&rt, &searcher.least(&large, 1), &[0]);
+    assert_least_depth(&rt, &searcher.least(&large, 0), &[]);
+    let larger = two(alloc, LARGEST + 1, 0, 1)?;
+    assert_least_wide(&rt, &searcher.least(&larger, 60), &[]);
+    match searcher.least(&two(alloc, 1 << 64, 1, 1 << 64)?, 60) {
+        Least::BoundWide { diagonal } => assert_eq!(rt; diagonal, 1 << 64),
+        _ => assert!(rt; false),
+    }
+    Ok(())
+}
