@@ -20,16 +20,23 @@ fn two(alloc: Global, a: i128, b: i128, c: i128) -> Result<SymInt, Fail>
 }
 
 /// The matrix of three rows with this lower triangle.
-fn three(alloc: Global, a: i16, b: i16, c: i16, d: i16, e: i16, f: i16) -> Result<SymInt, Fail> {
-    let lower = [
-        i128::from(a),
-        i128::from(b),
-        i128::from(c),
-        i128::from(d),
-        i128::from(e),
-        i128::from(f),
-    ];
-    Ok(SymInt::from_lower(alloc, 3, &lower)?)
+fn three(
+    alloc: Global,
+    a: i128,
+    b: i128,
+    c: i128,
+    d: i128,
+    e: i128,
+    f: i128,
+) -> Result<SymInt, Fail>
+    requires first { nat_abs a ≤ 2 ^ 126 }
+    requires second { nat_abs b ≤ 2 ^ 126 }
+    requires third { nat_abs c ≤ 2 ^ 126 }
+    requires fourth { nat_abs d ≤ 2 ^ 126 }
+    requires fifth { nat_abs e ≤ 2 ^ 126 }
+    requires last { nat_abs f ≤ 2 ^ 126 }
+{
+    Ok(SymInt::from_lower(alloc, 3, &[a, b, c, d, e, f])?)
 }
 
 fn assert_path(rt: &impl Abort, path: &Path, digits: &[u8]) {
@@ -159,6 +166,9 @@ fn low_values(rt: HostRuntime) -> Result<(), Fail> {
 /// 2^100, the limit of Gram entries.
 const LARGEST: i128 = 1267650600228229401496703205376;
 
+/// 2^64, a diagonal entry over its limit.
+const OVER: i128 = 18446744073709551616;
+
 #[test]
 fn entries_over_their_limits(rt: HostRuntime) -> Result<(), Fail> {
     let alloc = rt.alloc();
@@ -169,8 +179,8 @@ fn entries_over_their_limits(rt: HostRuntime) -> Result<(), Fail> {
     assert_least_depth(&rt, &searcher.least(&large, 0), &[]);
     let larger = two(alloc, LARGEST + 1, 0, 1)?;
     assert_least_wide(&rt, &searcher.least(&larger, 60), &[]);
-    match searcher.least(&two(alloc, 1 << 64, 1, 1 << 64)?, 60) {
-        Least::BoundWide { diagonal } => assert_eq!(rt; diagonal, 1 << 64),
+    match searcher.least(&two(alloc, OVER, 1, OVER)?, 60) {
+        Least::BoundWide { diagonal } => assert_eq!(rt; diagonal, OVER),
         _ => assert!(rt; false),
     }
     Ok(())
