@@ -1,10 +1,10 @@
 -- The choices on a table, as loops make them.
-use Rattle.std.specs.Prelude.{◌≡◌, ◌≢◌, ℕ, zero, suc, ◌+◌, ◌-◌, ◌<◌, ◌≤◌, ◌<ℤ◌, ◌≤ℤ◌, ℤ, pos, negsuc, Bool, true, false, not, ◌&&◌, List, [], ◌∷◌, ◌++◌, length, drop, get_or, Option, Some, None, IfSome, Result, Ok, Err, if◌then◌else◌, nat_eq, nat_lt}
+use Rattle.std.specs.Prelude.{◌≡◌, ◌≢◌, ℕ, suc, ◌+◌, ◌-◌, ◌<◌, ◌≤◌, ◌<ℤ◌, ◌≤ℤ◌, ℤ, pos, negsuc, Bool, true, false, not, ◌&&◌, List, [], ◌∷◌, ◌++◌, length, drop, get_or, Option, Some, None, IfSome, Ok, Err, if◌then◌else◌, nat_eq, nat_lt}
 use Rattle.std.proofs.Common.{arith, sym, ◌∙◌, ap, ap₂, refl, subst, drop-cons, drop_of_length-le, append-nil}
 use Rattle.std.proofs.lemmas.Int.{ints}
 use Rattle.std.specs.declared.cmp.Ordering.{Ordering}
 use Rattle.std.specs.declared.cmp.Ordering.TheVariants.{Less, Equal, Greater}
-use Rattle.exact_forms.specs.Rational.{Rational, whole, ◌/ℚ◌}
+use Rattle.exact_forms.specs.Rational.{Rational, whole}
 use Rattle.fraction128.specs.Order.{order_of}
 use Rattle.symmetric_matrix.specs.Owed.{answer}
 use Rattle.symmetric_matrix.proofs.Owed.{answer-append_err, answer-append_ok, answer_nothing}

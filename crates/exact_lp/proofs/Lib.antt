@@ -11,3 +11,4 @@ pub mod SquareLists
 pub mod Meaning
 pub mod SquareColumns
 pub mod Right
+pub mod Examples

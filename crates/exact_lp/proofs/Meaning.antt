@@ -1,38 +1,21 @@
 -- The tables of the linear program show coordinates, and its answer Outside is right.
-use Rattle.std.specs.Prelude.{◌≡◌, ◌≢◌, ℕ, zero, suc, ◌+◌, ◌-◌, ◌*◌, ◌<◌, ◌≤◌, ◌⊎◌, ℤ, pos, ◌≤ℤ◌, ◌*ℤ◌, Bool, true, false, not, ◌&&◌, ◌||◌, nat_eq, nat_lt, List, [], ◌∷◌, ◌++◌, length, get_or, slice_index_or, Option, Some, None, if◌then◌else◌}
-use Rattle.std.proofs.Common.{arith, sym, ◌∙◌, ap, ap₂, refl, subst, inl, inr, length-append}
-use Rattle.std.proofs.lemmas.List.{length-set}
-use Rattle.commutative_ring.proofs.Ring.{num, ◌⊕◌, ◌⊗◌, neg, v0, v1, v2, v3}
-use Rattle.exact_forms.specs.Rational.{Rational, whole, ◌*ℚ◌, ◌/ℚ◌, neg_ℚ}
-use Rattle.exact_forms.specs.Sums.{sum_ℚ}
-use Rattle.exact_forms.specs.Signs.{IsPositive, IsNegative, IsNonnegative}
-use Rattle.exact_forms.specs.Triangles.{triangle}
-use Rattle.exact_forms.specs.Vectors.{coordinate}
-use Rattle.exact_forms.specs.Coordinates.{Columns, IsBasis, mark}
-use Rattle.exact_forms.specs.RankOne.{rank_one_sum, AreCoordinates}
-use Rattle.exact_forms.proofs.RankOne.{rank_one_sum_is}
-use Rattle.exact_forms.proofs.Rational.{ring_ℚ, div-mul, zero_mul_ℚ}
-use Rattle.exact_forms.proofs.RationalSums.{sum_ℚ_same, sum_ℚ_swap, mul-sum_ℚ, sum_ℚ-mul}
-use Rattle.exact_forms.proofs.Signs.{nonneg_product, total_nonneg, positive_nonneg, whole_positive, positive_not_zero, negative_not_nonneg}
-use Rattle.exact_forms.proofs.Coordinates.{read_off, sum_marked}
+use Rattle.std.specs.Prelude.{◌≡◌, ◌≢◌, ℕ, zero, suc, ◌+◌, ◌-◌, ◌*◌, ◌<◌, ◌≤◌, ◌⊎◌, pos, true, false, nat_eq, List, [], ◌∷◌, length, Option, Some, None, if◌then◌else◌}
+use Rattle.std.proofs.Common.{arith, sym, ◌∙◌, ap, ap₂, refl, subst, inl, inr}
+use Rattle.exact_forms.specs.Rational.{Rational, whole}
+use Rattle.exact_forms.specs.Coordinates.{Columns}
 use Rattle.exact_forms.proofs.Slacks.{same_or_not}
-use Rattle.symmetric_matrix.specs.Symmetric.{Symmetric, entry}
-use Rattle.exact_linear.specs.Tables.{Table, IsRectangle, rows_of, table_entry, basic_at, cells, first_place}
-use Rattle.exact_linear.specs.Columns.{place_in, start_cell, columns_of, start_table, with_sum, with_sum_of, HasCoordinates, IsLastFree}
+use Rattle.exact_linear.specs.Tables.{Table, IsRectangle, rows_of, table_entry, basic_at, first_place}
+use Rattle.exact_linear.specs.Columns.{with_sum, with_sum_of, HasCoordinates, IsLastFree}
 use Rattle.exact_linear.specs.Exchange.{exchanged, rest_cells, table_cells, pivot_row, next_row, next_column, first_row, brought_in, first_bases}
 use Rattle.exact_linear.proofs.Fill.{length-cells}
 use Rattle.exact_linear.proofs.Exchanges.{exchanged_rows, exchanged_width, exchanged_basic_here, exchanged_basic_other, exchange_coordinates}
 use Rattle.exact_linear.proofs.BringIn.{row_taken, bring_some, bring_none, first_bases_none, first_bases_more, first_shape}
 use Rattle.exact_linear.proofs.Places.{first_found, first_none}
-use Rattle.exact_linear.proofs.StartTable.{start_coordinates, start_rows, start_basic, some_units}
 use Rattle.exact_linear.proofs.Summed.{summed_coordinates}
-use Rattle.exact_lp.specs.Rule.{target, top, is_negative, is_there, or_zero, holds, row_of, top_row, least_row, is_inside, goes_down, entering, is_candidate}
-use Rattle.exact_lp.specs.Placement.{Problem, first_table, firsts, leaving, stepped, opened, table_after, is_settled_first, is_last}
-use Rattle.exact_lp.specs.Squares.{square, squares, problem_of}
-use Rattle.exact_lp.specs.Weights.{over, AreWeights}
+use Rattle.exact_lp.specs.Rule.{target, top, or_zero, holds, row_of, top_row, least_row, is_candidate}
+use Rattle.exact_lp.specs.Placement.{leaving, stepped, opened}
 use Rattle.exact_lp.proofs.Choices.{IsCandidateRow, candidate_not_zero}
-use Rattle.exact_lp.proofs.Placing.{sum_pivot, leaving_found, last_free, opened_shape, stepped_shape}
-use Rattle.exact_lp.proofs.SquareLists.{length-squares, squares_at, start_is}
+use Rattle.exact_lp.proofs.Placing.{sum_pivot, leaving_found}
 
 -- ---- rectangles
 rest_length : (r c w : ℕ) (new old xs : List Rational) (i j : ℕ) → length (rest_cells r c w new old xs i j) ≡ length xs

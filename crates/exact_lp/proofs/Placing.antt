@@ -4,23 +4,23 @@ use Rattle.std.proofs.Common.{arith, sym, ◌∙◌, ap, ap₂, refl, subst, inl
 use Rattle.exact_forms.specs.Rational.{Rational, whole}
 use Rattle.exact_forms.proofs.Signs.{positive_not_zero, one_positive}
 use Rattle.symmetric_matrix.specs.Owed.{answer, first_owed}
-use Rattle.symmetric_matrix.proofs.Owed.{answer_is_first_owed, first_owed-append_none, first_owed-append_some, first_owed-map, answer-append_err, answer-append_ok}
+use Rattle.symmetric_matrix.proofs.Owed.{answer_is_first_owed, first_owed-append_none, first_owed-append_some, first_owed-map}
 use Rattle.exact_linear.specs.declared.entry.EntryOp.{EntryOp}
-use Rattle.exact_linear.specs.Tables.{Table, rows_of, table_entry, basic_at, cells, places_where}
+use Rattle.exact_linear.specs.Tables.{Table, rows_of, table_entry, basic_at, places_where}
 use Rattle.exact_linear.specs.Columns.{with_sum, IsLastFree}
 use Rattle.exact_linear.specs.Exchange.{entry_is_owed, exchange_ops, exchanged, first_row, brought_in, first_bases, first_ops}
 use Rattle.exact_linear.proofs.Exchanges.{exchanged_rows, exchanged_width, exchanged_basic_here, exchanged_basic_other}
-use Rattle.exact_linear.proofs.BringIn.{bring_some, bring_none, first_bases_none, first_bases_more, first_shape, brought_shape, row_taken}
+use Rattle.exact_linear.proofs.BringIn.{bring_some, bring_none, first_bases_none, first_bases_more, first_shape, row_taken}
 use Rattle.exact_linear.proofs.Fill.{cells_at}
 use Rattle.exact_linear.proofs.Places.{first_found}
 use Rattle.exact_forms.proofs.Slacks.{same_or_not}
 use Rattle.exact_lp.specs.declared.placed.Exchange.{Exchange}
 use Rattle.exact_lp.specs.declared.placed.PlaceOp.{PlaceOp}
-use Rattle.exact_lp.specs.declared.placed.PlaceOp.TheVariants.{Tableau, Weight}
+use Rattle.exact_lp.specs.declared.placed.PlaceOp.TheVariants.{Tableau}
 use Rattle.exact_lp.specs.declared.placed.Placed.{Placed}
 use Rattle.exact_lp.specs.declared.placed.Placed.TheVariants.{Inside, Outside, Pivots, Wide, OutOfMemory}
 use Rattle.exact_lp.specs.Rule.{target, top, or_zero, is_there, is_basic, first_columns, is_settled, least_row, is_inside, goes_down, entering, leaving_row, leaving_ops, is_candidate, better, AreColumns}
-use Rattle.exact_lp.specs.Placement.{Problem, place_is_owed, first_owed_in, first_table, firsts, ranks, leaving, stepped, step_ops, exchange_of, opened, opened_ops, table_after, is_settled_first, IsLeft, IsSteppedOption, steps_of, is_last, IsStepDue, weight_ops, weights, last_table, zeros_of, outside_vector, opening_ops, closing_ops, leg_ops, legs, IsRun, IsInsideAfter, IsOutsideAfter, IsRefusedAfter, IsOwedAfter, IsPlaced, IsWeighed, IsOutsideAnswer}
+use Rattle.exact_lp.specs.Placement.{Problem, place_is_owed, first_owed_in, first_table, firsts, leaving, stepped, step_ops, exchange_of, opened, opened_ops, table_after, is_settled_first, IsLeft, IsSteppedOption, steps_of, is_last, IsStepDue, weight_ops, weights, last_table, zeros_of, outside_vector, opening_ops, closing_ops, leg_ops, legs, IsRun, IsInsideAfter, IsOutsideAfter, IsOwedAfter, IsPlaced, IsWeighed, IsOutsideAnswer}
 use Rattle.exact_lp.proofs.Choices.{IsCandidateRow, better_found}
 use Rattle.exact_lp.proofs.Weighing.{err_first, ok_first}
 

@@ -1,6 +1,6 @@
 -- The answer Outside is right.
-use Rattle.std.specs.Prelude.{◌≡◌, ◌≢◌, ℕ, zero, suc, ◌+◌, ◌-◌, ◌*◌, ◌<◌, ◌≤◌, ◌⊎◌, ℤ, pos, negsuc, ◌≤ℤ◌, ◌<ℤ◌, ◌*ℤ◌, Bool, true, false, not, ◌||◌, List, [], ◌∷◌, ◌++◌, length, slice_index_or, Option, Some, None, if◌then◌else◌, nat_eq}
-use Rattle.std.proofs.Common.{arith, sym, ◌∙◌, ap, ap₂, refl, subst, inl, inr, length-append}
+use Rattle.std.specs.Prelude.{◌≡◌, ◌≢◌, ℕ, zero, suc, ◌+◌, ◌-◌, ◌*◌, ◌<◌, ◌≤◌, ℤ, pos, negsuc, ◌≤ℤ◌, ◌<ℤ◌, ◌*ℤ◌, Bool, true, false, not, ◌||◌, List, [], ◌∷◌, ◌++◌, length, slice_index_or, Option, Some, None, if◌then◌else◌, nat_eq}
+use Rattle.std.proofs.Common.{arith, sym, ◌∙◌, ap, refl, subst, length-append}
 use Rattle.std.proofs.lemmas.Int.{ints}
 use Rattle.commutative_ring.proofs.Ring.{◌⊗◌, v0, v1, v2}
 use Rattle.exact_forms.specs.Rational.{Rational, whole, ◌*ℚ◌, ◌/ℚ◌}
@@ -9,26 +9,24 @@ use Rattle.exact_forms.specs.Signs.{IsNegative, IsNonnegative}
 use Rattle.exact_forms.specs.Triangles.{triangle}
 use Rattle.exact_forms.specs.Vectors.{coordinate}
 use Rattle.exact_forms.specs.Coordinates.{Columns, mark}
-use Rattle.exact_forms.specs.RankOne.{rank_one_sum}
 use Rattle.exact_forms.proofs.Rational.{ring_ℚ, div-mul}
 use Rattle.exact_forms.proofs.RationalSums.{sum_ℚ_same, sum_ℚ_swap, mul-sum_ℚ, sum_ℚ-mul}
 use Rattle.exact_forms.proofs.Signs.{nonneg_product, total_nonneg, positive_nonneg, whole_positive, positive_not_zero, negative_not_nonneg}
 use Rattle.exact_forms.proofs.Coordinates.{read_off, sum_marked}
 use Rattle.exact_forms.proofs.RankOne.{rank_one_sum_is}
 use Rattle.symmetric_matrix.specs.Symmetric.{Symmetric, entry}
-use Rattle.exact_linear.specs.Tables.{Table, IsRectangle, rows_of, table_entry, basic_at, first_place}
-use Rattle.exact_linear.specs.Columns.{place_in, start_cell, width_of, columns_of, start_table, with_sum_of, HasCoordinates}
-use Rattle.exact_linear.specs.Exchange.{first_bases}
+use Rattle.exact_linear.specs.Tables.{Table, IsRectangle, rows_of, table_entry, basic_at}
+use Rattle.exact_linear.specs.Columns.{start_cell, width_of, columns_of, start_table, with_sum_of, HasCoordinates}
 use Rattle.exact_linear.proofs.Fill.{length-cells}
 use Rattle.exact_linear.proofs.BringIn.{first_shape}
 use Rattle.exact_linear.proofs.Places.{first_none}
-use Rattle.exact_linear.proofs.StartTable.{start_coordinates, start_rows, start_basic, some_units}
+use Rattle.exact_linear.proofs.StartTable.{start_coordinates, start_rows, start_basic}
 use Rattle.exact_lp.specs.declared.placed.Placed.{Placed}
 use Rattle.exact_lp.specs.declared.placed.Placed.TheVariants.{Inside, Outside, Pivots, Wide, OutOfMemory}
 use Rattle.exact_lp.specs.Rule.{target, top, is_negative, is_there, or_zero, top_row, is_lower, least_row, is_inside, goes_down, entering}
-use Rattle.exact_lp.specs.Placement.{Problem, first_table, firsts, stepped, opened, table_after, is_settled_first, is_last, IsStepDue, IsPlaced}
+use Rattle.exact_lp.specs.Placement.{Problem, first_table, firsts, table_after, is_settled_first, is_last, IsStepDue, IsPlaced}
 use Rattle.exact_lp.specs.Squares.{squares, problem_of}
-use Rattle.exact_lp.specs.Weights.{over, AreWeights, IsSound}
+use Rattle.exact_lp.specs.Weights.{AreWeights, IsSound}
 use Rattle.exact_lp.proofs.Placing.{last_free, entering_within}
 use Rattle.exact_lp.proofs.SquareLists.{start_is, length-squares}
 use Rattle.exact_lp.proofs.SquareColumns.{vector_column, target_column}

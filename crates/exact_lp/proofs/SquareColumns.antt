@@ -1,20 +1,18 @@
 -- The columns of the tableau of a list of vectors are their squares, then the target.
-use Rattle.std.specs.Prelude.{◌≡◌, ◌≢◌, ℕ, zero, suc, ◌+◌, ◌-◌, ◌<◌, ◌≤◌, ◌⊎◌, ℤ, pos, ◌*ℤ◌, Bool, true, false, nat_lt, List, [], ◌∷◌, ◌++◌, map, length, get_or, slice_index_or, if◌then◌else◌}
-use Rattle.std.proofs.Common.{arith, sym, ◌∙◌, ap, ap₂, refl, subst, inl, inr, length-append}
-use Rattle.std.specs.List.{range_with_len}
+use Rattle.std.specs.Prelude.{◌≡◌, ℕ, zero, suc, ◌+◌, ◌-◌, ◌<◌, ◌≤◌, ◌⊎◌, pos, ◌*ℤ◌, Bool, true, false, nat_lt, List, [], ◌∷◌, ◌++◌, length, get_or, slice_index_or, if◌then◌else◌}
+use Rattle.std.proofs.Common.{arith, sym, ◌∙◌, ap, refl, inl, inr}
 use Rattle.std.proofs.lemmas.List.{get_or-append-add}
 use Rattle.std.proofs.Math.ListN.{get_or-append}
 use Rattle.std.proofs.lemmas.List.FromFn.{get_or-map-range_with_len}
 use lib.IntN.{*ℤ_comm}
-use Rattle.exact_forms.specs.Rational.{Rational, whole}
+use Rattle.exact_forms.specs.Rational.{whole}
 use Rattle.exact_forms.specs.Triangles.{triangle, entry_in}
 use Rattle.exact_forms.proofs.Triangles.{entry_before}
 use Rattle.exact_forms.specs.Vectors.{coordinate}
-use Rattle.exact_forms.specs.RankOne.{HasVectors}
 use Rattle.symmetric_matrix.specs.Symmetric.{Symmetric, entry}
-use Rattle.exact_linear.specs.Columns.{place_in, start_cell, no_matrix, columns_of}
+use Rattle.exact_linear.specs.Columns.{place_in, start_cell, no_matrix}
 use Rattle.exact_linear.proofs.StartTable.{cell_given}
-use Rattle.exact_lp.specs.Squares.{square_row, square_rows, square, squares}
+use Rattle.exact_lp.specs.Squares.{square_row, square_rows, squares}
 use Rattle.exact_lp.proofs.SquareLists.{rows_length, length-squares, squares_at, at_end}
 
 row_at : (x : List ℕ) (i j : ℕ) → j ≤ i → get_or (square_row x i) j (pos 0) ≡ coordinate x i *ℤ coordinate x j

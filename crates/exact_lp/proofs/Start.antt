@@ -3,9 +3,9 @@ use Rattle.std.specs.Prelude.{◌≡◌, ◌≢◌, ℕ, zero, suc, ◌<◌, ◌
 use Rattle.std.proofs.Common.{arith, sym, ◌∙◌, ap, ap₂, refl, subst, inl, inr}
 use Rattle.commutative_ring.proofs.Ring.{num, ◌⊕◌, ◌⊗◌, neg, v0, v1}
 use Rattle.exact_forms.specs.Slacks.{replaced}
-use Rattle.exact_forms.specs.Rational.{Rational, whole, neg_ℚ, ◌+ℚ◌, ◌*ℚ◌, ◌/ℚ◌}
+use Rattle.exact_forms.specs.Rational.{Rational, whole, neg_ℚ, ◌+ℚ◌, ◌*ℚ◌}
 use Rattle.exact_forms.proofs.Slacks.{replaced_here, replaced_other, same_or_not}
-use Rattle.exact_forms.proofs.Rational.{ring_ℚ, div-mul}
+use Rattle.exact_forms.proofs.Rational.{ring_ℚ}
 use Rattle.exact_forms.specs.Signs.{IsPositive, IsNonnegative}
 use Rattle.exact_forms.specs.Lexicographic.{IsLexPositive}
 use Rattle.exact_forms.specs.Coordinates.{mark, swapped, exchanged}

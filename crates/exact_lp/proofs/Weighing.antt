@@ -1,7 +1,6 @@
 -- The two ends, as loops make them.
-use Rattle.std.specs.Prelude.{◌≡◌, ◌≢◌, ℕ, zero, suc, ◌+◌, ◌-◌, ◌<◌, ◌≤◌, pos, Bool, true, false, ◌&&◌, ◌||◌, List, [], ◌∷◌, ◌++◌, map, length, drop, get_or, Option, Some, None, Result, Ok, Err, is_err, OnOk, if◌then◌else◌, nat_eq}
-use Rattle.std.proofs.Common.{arith, sym, ◌∙◌, ap, ap₂, refl, subst, drop-cons, drop_of_length-le}
-use Rattle.std.specs.List.{range_with_len}
+use Rattle.std.specs.Prelude.{◌≡◌, ◌≢◌, ℕ, suc, ◌+◌, ◌-◌, ◌<◌, ◌≤◌, pos, Bool, true, false, ◌&&◌, ◌||◌, List, [], ◌∷◌, ◌++◌, map, length, drop, get_or, Option, Some, None, Result, Ok, Err, is_err, OnOk, if◌then◌else◌, nat_eq}
+use Rattle.std.proofs.Common.{arith, sym, ◌∙◌, ap, ap₂, refl, drop-cons, drop_of_length-le}
 use Rattle.std.proofs.lemmas.List.FromFn.{map-range_with_len_more}
 use Rattle.exact_forms.specs.Rational.{Rational, whole, ◌+ℚ◌, ◌/ℚ◌}
 use Rattle.fraction128.specs.Recipes.{add_ops, div_ops}

@@ -18,14 +18,14 @@
 --     IsPlaced p budget a  a is the answer with at most so many steps
 --
 -- Rows, columns and vectors count from 0.
-use Rattle.std.specs.Prelude.{ℕ, zero, suc, ◌+◌, ◌-◌, ◌<◌, ◌≤◌, ◌≡◌, ◌≢◌, pos, Bool, true, false, not, ◌&&◌, ◌||◌, List, [], ◌∷◌, ◌++◌, map, length, Option, Some, None, Result, Ok, Err, if◌then◌else◌, nat_eq}
+use Rattle.std.specs.Prelude.{ℕ, zero, suc, ◌+◌, ◌-◌, ◌<◌, ◌≤◌, ◌≡◌, pos, Bool, true, false, ◌&&◌, ◌||◌, List, [], ◌∷◌, ◌++◌, map, length, Option, Some, None, Result, Ok, Err, if◌then◌else◌, nat_eq}
 use Rattle.std.specs.List.{range_with_len}
 use Rattle.exact_forms.specs.Rational.{Rational, whole, ◌+ℚ◌, ◌/ℚ◌}
 use Rattle.fraction128.specs.Recipes.{add_ops, div_ops}
 use Rattle.symmetric_matrix.specs.Operations.{is_owed}
 use Rattle.symmetric_matrix.specs.Owed.{first_owed}
 use Rattle.exact_linear.specs.declared.entry.EntryOp.{EntryOp}
-use Rattle.exact_linear.specs.Tables.{Table, rows_of, table_entry, basic_at, first_place, places_where}
+use Rattle.exact_linear.specs.Tables.{Table, rows_of, table_entry, basic_at, places_where}
 use Rattle.exact_linear.specs.Columns.{with_sum}
 use Rattle.exact_linear.specs.Exchange.{entry_is_owed, exchange_ops, exchanged, first_bases, first_ops}
 use Rattle.exact_lp.specs.declared.placed.Exchange.{Exchange}

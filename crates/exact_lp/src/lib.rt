@@ -11,3 +11,6 @@ mod squares;
 pub use lists::{Exchanges, Indices, Weights};
 pub use placed::{Exchange, PlaceOp, Placed};
 pub use simplex::place;
+
+#[cfg(test)]
+mod tests;

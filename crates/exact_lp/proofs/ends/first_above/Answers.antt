@@ -1,4 +1,4 @@
-use Rattle.std.proofs.Common.{◌≡◌, ◌∙◌, sym, ap, refl, get_or}
+use Rattle.std.proofs.Common.{◌∙◌, sym, ap, refl, get_or}
 use Rattle.exact_forms.specs.Rational.{Rational}
 use Rattle.exact_lp.specs.Rule.{is_positive}
 use Rattle.exact_lp.proofs.Weighing.{above_found, above_more, above_done}

@@ -1,4 +1,4 @@
-use Rattle.std.proofs.Common.{◌≡◌, ◌∙◌, sym, arith, refl}
+use Rattle.std.proofs.Common.{◌∙◌, sym, arith, refl}
 use Rattle.exact_lp.proofs.Weighing.{weigh_start, weigh_refused, weigh_more, weigh_done, on_ok}
 use Rattle.exact_lp.proofs.ends.inside.Goals as goal
 

@@ -1,4 +1,4 @@
-use Rattle.std.proofs.Common.{◌≡◌, ◌∙◌, sym, ap, subst, arith, Ok, Err, Some, None, Option, ℕ}
+use Rattle.std.proofs.Common.{◌≡◌, ◌∙◌, sym, subst, arith, Ok, Err, Some, Option, ℕ}
 use Rattle.symmetric_matrix.specs.Owed.{answer}
 use Rattle.symmetric_matrix.proofs.Owed.{answer_nothing}
 use Rattle.exact_linear.specs.Exchange.{entry_is_owed}

@@ -1,6 +1,6 @@
-use Rattle.std.proofs.Common.{◌≡◌, ◌∙◌, sym, ap, ap₂, subst, arith, ◌+◌, ℕ, Bool, true, false}
-use Rattle.exact_linear.specs.Tables.{rows_of, table_entry}
-use Rattle.exact_lp.specs.Rule.{entering, goes_down, is_negative, top_row}
+use Rattle.std.proofs.Common.{◌∙◌, sym, subst, arith, ◌+◌, ℕ}
+use Rattle.exact_linear.specs.Tables.{rows_of}
+use Rattle.exact_lp.specs.Rule.{entering, goes_down}
 use Rattle.exact_lp.proofs.Seeking.{IsSeeking, seek_found, seek_more, seek_done}
 use Rattle.exact_lp.proofs.Choices.{seek_entering, down_is}
 use Rattle.exact_lp.proofs.rule.entering.Goals as goal

@@ -1,4 +1,4 @@
-use Rattle.std.proofs.Common.{◌≡◌, ◌∙◌, ap, not, Bool}
+use Rattle.std.proofs.Common.{◌∙◌, ap, not, Bool}
 use Rattle.exact_lp.proofs.Choices.{inside_is}
 use Rattle.exact_lp.proofs.rule.is_inside.Goals as goal
 

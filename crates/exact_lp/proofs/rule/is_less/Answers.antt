@@ -1,10 +1,10 @@
-use Rattle.std.proofs.Common.{◌≡◌, ◌∙◌, sym, arith, get_or, Ok, Err, true, false, refl}
+use Rattle.std.proofs.Common.{◌≡◌, ◌∙◌, sym, arith, get_or, Err, true, false, refl}
 use Rattle.std.specs.declared.cmp.Ordering.TheVariants.{Less, Equal, Greater}
 use Rattle.symmetric_matrix.specs.Owed.{answer}
 use Rattle.symmetric_matrix.proofs.Owed.{answer_nothing}
 use Rattle.exact_linear.specs.Exchange.{entry_is_owed}
 use Rattle.exact_lp.specs.Rule.{versus_ops, beats}
-use Rattle.exact_lp.proofs.Choices.{compare_start, compare_refused_best, compare_refused_own, compare_both, compare_done}
+use Rattle.exact_lp.proofs.Choices.{compare_refused_best, compare_refused_own, compare_both, compare_done}
 use Rattle.exact_lp.proofs.rule.is_less.Goals as goal
 
 pub returns-in_err-other : goal.returns-in_err-other

@@ -1,4 +1,4 @@
-use Rattle.std.proofs.Common.{◌≡◌, ◌∙◌, sym, ap, ap₂, ℕ, Bool, nat_lt}
+use Rattle.std.proofs.Common.{◌∙◌, ap, ap₂, ℕ, nat_lt}
 use Rattle.std.specs.declared.cmp.Ordering.TheVariants.{Less, Equal, Greater}
 use Rattle.exact_linear.specs.Tables.{table_entry}
 use Rattle.fraction128.specs.Order.{order_of}

@@ -1,4 +1,4 @@
-use Rattle.std.proofs.Common.{◌≡◌, ◌∙◌, sym, arith}
+use Rattle.std.proofs.Common.{◌∙◌, sym, arith}
 use Rattle.exact_linear.specs.Tables.{rows_of}
 use Rattle.exact_lp.specs.Rule.{is_below}
 use Rattle.exact_lp.proofs.Seeking.{seek_found, seek_more, seek_done}

@@ -1,10 +1,9 @@
-use Rattle.std.proofs.Common.{◌≡◌, ◌∙◌, sym, arith, subst, Err, Option, None, Some, IfSome, ℕ, ◌<◌, ◌≢◌, pos}
-use Rattle.exact_forms.specs.Rational.{whole}
+use Rattle.std.proofs.Common.{◌≡◌, ◌∙◌, sym, arith, Err, None}
 use Rattle.symmetric_matrix.specs.Owed.{answer}
-use Rattle.exact_linear.specs.Tables.{table_entry, rows_of}
+use Rattle.exact_linear.specs.Tables.{rows_of}
 use Rattle.exact_linear.specs.Exchange.{entry_is_owed}
 use Rattle.exact_lp.specs.Rule.{leaving_row, leaving_ops}
-use Rattle.exact_lp.proofs.Choices.{best_start, best_passed, best_refused, best_more, best_done, candidate_not_zero, some_row, some_not_zero}
+use Rattle.exact_lp.proofs.Choices.{best_passed, best_refused, best_more, best_done, candidate_not_zero, some_row, some_not_zero}
 use Rattle.exact_lp.proofs.rule.leaving_row.Goals as goal
 use Rattle.exact_lp.proofs.rule.leaving_row.Goals.{then-is_candidate+in_ok-best, else-is_candidate}
 

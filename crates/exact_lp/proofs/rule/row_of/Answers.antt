@@ -1,5 +1,5 @@
 use Rattle.exact_linear.specs.Tables.{rows_of}
-use Rattle.exact_lp.specs.Rule.{row_of, holds}
+use Rattle.exact_lp.specs.Rule.{holds}
 use Rattle.exact_lp.proofs.Seeking.{seek_found, seek_more, seek_done}
 use Rattle.exact_lp.proofs.Choices.{seek_row, holds_yes, holds_no}
 use Rattle.std.proofs.Common.{◌∙◌, sym, arith}

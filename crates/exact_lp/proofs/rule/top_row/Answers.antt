@@ -1,6 +1,6 @@
 use Rattle.exact_lp.proofs.Choices.{top_some, top_none, row_within_table}
-use Rattle.exact_lp.specs.Rule.{row_of, top}
-use Rattle.std.proofs.Common.{◌≡◌, ◌∙◌, ap, ℕ, Some, None}
+use Rattle.exact_lp.specs.Rule.{row_of}
+use Rattle.std.proofs.Common.{◌∙◌, ap, ℕ}
 use Rattle.exact_lp.proofs.rule.top_row.Goals as goal
 
 pub returns-in-Some-clause-value : goal.returns-in-Some-clause-value

@@ -1,4 +1,4 @@
-use Rattle.std.proofs.Common.{◌≡◌, ◌∙◌, ◌-◌, ap, ap₂, sym, refl, ℕ}
+use Rattle.std.proofs.Common.{◌∙◌, ◌-◌, ap, ap₂, sym, ℕ}
 use Rattle.exact_linear.specs.Exchange.{exchange_ops}
 use Rattle.exact_lp.proofs.Placing.{err_owed, ok_owed, same_exchange}
 use Rattle.exact_lp.proofs.simplex.leave.Goals as goal

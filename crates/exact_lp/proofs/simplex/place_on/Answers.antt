@@ -1,12 +1,9 @@
-use Rattle.std.proofs.Common.{◌≡◌, ◌∙◌, ◌∷◌, sym, ap, ap₂, subst, arith, ℕ, List, Result, Option, length, length-append, Ok, [], ◌+◌}
-use Rattle.exact_forms.specs.Rational.{Rational}
+use Rattle.std.proofs.Common.{◌≡◌, ◌∙◌, ◌∷◌, sym, ap, ap₂, subst, arith, ℕ, List, length, length-append, Ok, [], ◌+◌}
 use Rattle.symmetric_matrix.specs.Owed.{first_owed}
-use Rattle.exact_linear.specs.declared.entry.EntryOp.{EntryOp}
-use Rattle.exact_linear.specs.Tables.{Table, rows_of}
+use Rattle.exact_linear.specs.Tables.{Table}
 use Rattle.exact_linear.specs.Exchange.{entry_is_owed, first_ops}
-use Rattle.exact_lp.specs.declared.placed.Exchange.{Exchange}
-use Rattle.exact_lp.specs.Rule.{is_settled, is_inside, AreColumns, target}
-use Rattle.exact_lp.specs.Placement.{opened, opened_ops, IsWeighed, IsOutsideAnswer, IsSteppedOption}
+use Rattle.exact_lp.specs.Rule.{is_settled}
+use Rattle.exact_lp.specs.Placement.{opened, opened_ops, IsWeighed, IsOutsideAnswer}
 use Rattle.exact_lp.proofs.Weighing.{on_ok}
 use Rattle.exact_lp.proofs.Placing.{problem, err_owed, no_error, if_ok_made, is_none, first_done, wide_first, wide_open, settled_weighed, last_free, at_start, at_inside, at_outside, at_pivots, at_wide, at_more, firsts_columns, ranks_columns, entering_within, stepped_facts, step_owed}
 use Rattle.exact_lp.proofs.simplex.place_on.Goals as goal

@@ -1,4 +1,4 @@
-use Rattle.std.proofs.Common.{◌≡◌, ◌∙◌, sym, ap, Ok}
+use Rattle.std.proofs.Common.{◌∙◌, sym, ap, Ok}
 use Rattle.exact_lp.proofs.Choices.{candidate_not_zero}
 use Rattle.exact_lp.proofs.Placing.{step_refused, step_row, step_left}
 use Rattle.exact_lp.proofs.simplex.step.Goals as goal
