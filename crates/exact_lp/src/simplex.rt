@@ -143,6 +143,7 @@ fn place_on(alloc: Global, start: Tableau, vectors: usize, d: Fraction, budget: 
                     return Placed::OutOfMemory;
                 }
             }
+            // No row can leave. That this can't be isn't proved yet.
             Ok(None) => return Placed::OutOfMemory,
             Err(op) => {
                 let op = PlaceOp::Tableau(op);
@@ -155,10 +156,13 @@ fn place_on(alloc: Global, start: Tableau, vectors: usize, d: Fraction, budget: 
 /// Whether S/d is a nonnegative combination of the matrices v·vᵗ of the vectors, by the simplex rule with at most `budget`
 /// steps.
 ///
-/// The vectors have as many coordinates as S has rows, and d is at least 1. Where their matrices span all symmetric matrices
-/// of that size, an answer comes but for want of memory. The answer is `Pivots` exactly where another step is due after
-/// `budget` of them and no operation up to then is owed, and `Wide` exactly where that operation is the first owed one after
-/// the steps. Want of memory may come at any time.
+/// The vectors have as many coordinates as S has rows, and d is at least 1. Each answer comes after steps of the rule that
+/// were due: `Pivots` after `budget` of them, where another is due and no operation up to then is owed; `Wide` with the first
+/// operation that is owed after the steps; `Outside` only where there are no nonnegative weights. Want of memory may come at
+/// any time.
+///
+/// Not proved yet: that the weights of `Inside` sum to S/d, and that a row can always leave where the vectors' matrices span
+/// all symmetric matrices of that size. Where no row can, the answer is `OutOfMemory`.
 pub fn place(alloc: Global, vectors: &VectorList, s: &SymInt, d: i128, budget: u32) -> Placed
     requires one_length { (k : ℕ) → k < length vectors.now → length (slice_index_or vectors.now k []) ≡ s.now.size }
     requires positive { pos 1 ≤ℤ d }

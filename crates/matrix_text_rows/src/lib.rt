@@ -1,5 +1,5 @@
-//! Texts that are read through the whole of `matrix_text`: each kind of fault at more than one line, and numbers of
-//! thousands of digits.
+//! Texts that are read through the whole of `matrix_text`: faults at other lines than those of its own table, and a number
+//! of thousands of digits.
 #![tactic(auto)]
 
 #[cfg(test)]
