@@ -1,27 +1,19 @@
 -- The entries of a matrix that was cleared of its denominators.
-use Rattle.std.specs.Prelude.{◌≡◌, ℕ, ◌+◌, ◌<◌, ℤ, pos, nat_abs, ◌≤ℤ◌, nat_lt, Bool, true, false, if◌then◌else◌, List, map, slice_index_or, Ok, Some, None}
+use Rattle.std.specs.Prelude.{◌≡◌, ℕ, ◌<◌, ℤ, pos, nat_abs, ◌≤ℤ◌, List, Ok, Some, None}
 use Rattle.std.proofs.Common.{sym, ap, ap₂, ◌∙◌, subst, arith}
-use Rattle.std.proofs.Math.ListN.{get_or-map}
 use Rattle.std.proofs.lemmas.Int.{ints}
 use Rattle.exact_forms.specs.Rational.{Rational, ratio, whole}
-use Rattle.exact_forms.specs.Triangles.{triangle, entry_in}
+use Rattle.exact_forms.specs.Triangles.{entry_in}
 use Rattle.exact_forms.proofs.Rational.{ratio_same}
 use Rattle.symmetric_matrix.specs.Owed.{first_owed, answer}
 use Rattle.symmetric_matrix.specs.Symmetric.{Symmetric, entry}
 use Rattle.matrix_text.specs.RationalMatrix.{RationalMatrix, rational_entry}
 use Rattle.matrix_text.specs.Clearing.{is_placed_owed, clear_ops, cleared_of, least_denominator, IsCleared}
 use Rattle.cpfactor_top.specs.StartWeighing.{start_ops, is_weight_owed}
-use Rattle.cpfactor_top.specs.Answers.{IsClearable, IsWeighable, whole_of}
+use Rattle.cpfactor_top.specs.Solving.{IsClearable, IsWeighable, whole_of}
 use Rattle.cpfactor_top.specs.declared.start_weight.WideWeight.{WideWeight}
-use Rattle.cpfactor_top.proofs.AnswerLaws.{none_of_ok}
-
-entry_in-map : {A B : Type 0} (f : A → B) (none : A) (xs : List A) (i j : ℕ) → entry_in (f none) (map f xs) i j ≡ f (entry_in none xs i j)
-unfolding entry_in
-entry_in-map f none xs i j = by (nat_lt i j)
-  where
-    by : (b : Bool) → (if b then slice_index_or (map f xs) (triangle j + i) (f none) else slice_index_or (map f xs) (triangle i + j) (f none)) ≡ f (if b then slice_index_or xs (triangle j + i) none else slice_index_or xs (triangle i + j) none)
-    by true = get_or-map f xs (triangle j + i) none
-    by false = get_or-map f xs (triangle i + j) none
+use Rattle.symmetric_matrix.proofs.Owed.{none_of_ok}
+use Rattle.exact_forms.proofs.Triangles.{entry_in-map}
 
 zero_over : (d : ℕ) → 0 < d → whole (pos 0) ≡ ratio (pos 0) d
 unfolding whole

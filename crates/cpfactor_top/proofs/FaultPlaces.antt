@@ -19,7 +19,7 @@ use Rattle.cpfactor_top.specs.Reading.{Form, FileName, Number, OptionRow, is_opt
 abbrev pub one_if : Bool → ℕ
 one_if b = cond b 1 0
 
-count_by-cons : {X : Type 0} (p : X → Bool) (x : X) (xs : List X) → count_by p (x ∷ xs) ≡ one_if (p x) + count_by p xs
+pub count_by-cons : {X : Type 0} (p : X → Bool) (x : X) (xs : List X) → count_by p (x ∷ xs) ≡ one_if (p x) + count_by p xs
 count_by-cons p x xs = sum_by-cons (λ y. cond (p y) 1 0) x xs
 
 one_if-le : (b c : Bool) → (b ≡ true → c ≡ true) → one_if b ≤ one_if c
@@ -43,7 +43,7 @@ count_by-lt r p q (y ∷ ys) x keeps new found = elim (cases_Bool (r y)) [
 
 -- ---- words and forms
 
-same_bytes : (xs ys : List ℕ) → bytes_eq xs ys ≡ true → xs ≡ ys
+pub same_bytes : (xs ys : List ℕ) → bytes_eq xs ys ≡ true → xs ≡ ys
 same_bytes xs ys e = (bytes_eq-Decides xs ys).0 e
 
 -- no option's name is a word of another kind
@@ -92,14 +92,14 @@ given-new options words k o lt named new =
     (rw (← e) new, list_any_more (λ word. bytes_eq word p.name) words k [] lt ∙ or_right _ _ same))
     named
 
-range_more : (a n : ℕ) → range_with_len a (n + 1) ≡ range_with_len a n ++ (a + n) ∷ []
+pub range_more : (a n : ℕ) → range_with_len a (n + 1) ≡ range_with_len a n ++ (a + n) ∷ []
 range_more a zero = let k : a + 0 ≡ a = omega arith in rw k refl
 range_more a (suc n) =
     let k : (a + 1) + n ≡ a + suc n = omega arith in
     let next : suc n + 1 ≡ suc (n + 1) = omega arith in
     rw next (ap (λ ns. a ∷ ns) (range_more (a + 1) n ∙ ap (λ m. range_with_len (a + 1) n ++ m ∷ []) k))
 
-plain_more : (options : List OptionRow) (words : List (List ℕ)) (k : ℕ) → plain_before options words (k + 1) ≡ plain_before options words k + one_if (is_plain options words k)
+pub plain_more : (options : List OptionRow) (words : List (List ℕ)) (k : ℕ) → plain_before options words (k + 1) ≡ plain_before options words k + one_if (is_plain options words k)
 unfolding plain_before
 plain_more options words k = rw (range_more 0 k, sum_by-append (λ j. one_if (is_plain options words j)) (range_with_len 0 k) ((0 + k) ∷ [])) (let zero_k : 0 + k ≡ k = omega arith in let zero_one : 0 + one_if (is_plain options words k) ≡ one_if (is_plain options words k) = omega arith in rw (zero_k, zero_one) refl)
 
@@ -147,20 +147,24 @@ option_step plain options words k lt is here fits near =
     some_of None e = absurd (false≢true e)
     some_of (Some row) e = (row, refl)
 
+-- a plain argument that can be read is one of those that are due
+pub plain_within : (plain : List Form) (options : List OptionRow) (words : List (List ℕ)) (k : ℕ) → wanted options words k ≡ None → is_option (word_at words k) ≡ false → can_be_read plain options words k ≡ true → plain_before options words k < length plain
+unfolding can_be_read
+plain_within plain options words k is other fits = by_form (slice_get plain (plain_before options words k)) refl (rw (is, other) at fits)
+  where
+    by_form : (form : Option Form) → slice_get plain (plain_before options words k) ≡ form → has_wanted form (word_at words k) false ≡ true → plain_before options words k < length plain
+    by_form None e fit = absurd (false≢true fit)
+    by_form (Some form) e fit = slice_get_within plain (plain_before options words k) form e
+
 -- place k holds a plain argument
 plain_step : (plain : List Form) (options : List OptionRow) (words : List (List ℕ)) (k : ℕ) → list_all (λ o. is_option o.name) options ≡ true → wanted options words k ≡ None → is_option (word_at words k) ≡ false → can_be_read plain options words k ≡ true → IsNear plain options words k → IsNear plain options words (k + 1)
-unfolding can_be_read is_plain
+unfolding is_plain
 plain_step plain options words k named is other fits near =
-    let fit : has_wanted (slice_get plain (plain_before options words k)) (word_at words k) false ≡ true = rw (is, other) at fits in
     let one : is_plain options words k ≡ true = rw (is, other) refl in
     let more : plain_before options words (k + 1) ≡ plain_before options words k + 1 = rw (plain_more options words k, one) refl in
     let paid = not_owing options words k named other in
-    let within = wanted_within (slice_get plain (plain_before options words k)) refl fit in
+    let within = plain_within plain options words k is other fits in
     record { far = omega (arith, near.far, given-le options words k, paid, more); plains = omega (arith, within, more) }
-  where
-    wanted_within : (form : Option Form) → slice_get plain (plain_before options words k) ≡ form → has_wanted form (word_at words k) false ≡ true → plain_before options words k < length plain
-    wanted_within None e fit = absurd (false≢true fit)
-    wanted_within (Some form) e fit = slice_get_within plain (plain_before options words k) form e
 
 near_step : (plain : List Form) (options : List OptionRow) (words : List (List ℕ)) (k : ℕ) → list_all (λ o. is_option o.name) options ≡ true → k < length words → can_be_read plain options words k ≡ true → IsNear plain options words k → IsNear plain options words (k + 1)
 near_step plain options words k named lt fits near = by_role (wanted options words k) refl
@@ -182,7 +186,7 @@ near_from plain options words (suc k) named le fits =
 
 -- ---- the first place that fails
 
-found_first : (p : ℕ → Bool) (a n k : ℕ) → find p (range_with_len a n) ≡ Some k → (a ≤ k) × (k < a + n) × ((j : ℕ) → a ≤ j → j < k → p j ≡ false)
+pub found_first : (p : ℕ → Bool) (a n k : ℕ) → find p (range_with_len a n) ≡ Some k → (a ≤ k) × (k < a + n) × ((j : ℕ) → a ≤ j → j < k → p j ≡ false)
 found_first p a zero k found = absurd (cc)
 found_first p a (suc n) k found = elim (cases_Bool (p a)) [
   | inl here ↦
@@ -201,7 +205,7 @@ found_first p a (suc n) k found = elim (cases_Bool (p a)) [
       )
 ]
 
-found_none : (p : ℕ → Bool) (a n : ℕ) → find p (range_with_len a n) ≡ None → (j : ℕ) → a ≤ j → j < a + n → p j ≡ false
+pub found_none : (p : ℕ → Bool) (a n : ℕ) → find p (range_with_len a n) ≡ None → (j : ℕ) → a ≤ j → j < a + n → p j ≡ false
 found_none p a zero found j le lt = absurd (omega arith)
 found_none p a (suc n) found j le lt = elim (cases_Bool (p a)) [
   | inl here ↦ let e : Some a ≡ None = rw here at found in absurd (cc)
@@ -213,24 +217,27 @@ found_none p a (suc n) found j le lt = elim (cases_Bool (p a)) [
       ]
 ]
 
+-- words that can be read are at most all plain arguments, all options and their values
+pub read-le : (plain : List Form) (options : List OptionRow) (words : List (List ℕ)) (k : ℕ) → list_all (λ o. is_option o.name) options ≡ true → k ≤ length words → ((j : ℕ) → j < k → can_be_read plain options words j ≡ true) → k ≤ length plain + 2 * length options
+read-le plain options words k named le fits =
+    let near = near_from plain options words k named le fits in
+    omega (arith, near.far, near.plains, count_by-le-length (λ o. list_any (λ word. bytes_eq word o.name) (take k words)) options)
+
 -- the first fault comes after at most all plain arguments, all options and their values
 pub fault_place-le : (plain : List Form) (options : List OptionRow) (words : List (List ℕ)) (k : ℕ) → list_all (λ o. is_option o.name) options ≡ true → fault_place plain options words ≡ Some k → k ≤ length plain + 2 * length options
 unfolding fault_place first_unread
 fault_place-le plain options words k named fault = by_first (first_unread plain options words) refl fault
   where
-    few : (j : ℕ) → IsNear plain options words j → j ≤ length plain + 2 * length options
-    few j near = omega (arith, near.far, near.plains, count_by-le-length (λ o. list_any (λ word. bytes_eq word o.name) (take j words)) options)
-
-    at_end : (complete : Bool) → place_or_missing None complete (length words) ≡ Some k → IsNear plain options words (length words) → k ≤ length plain + 2 * length options
+    at_end : (complete : Bool) → place_or_missing None complete (length words) ≡ Some k → length words ≤ length plain + 2 * length options → k ≤ length plain + 2 * length options
     at_end true e near = absurd (cc)
-    at_end false e near = let same : length words ≡ k = cc in subst (λ i. i ≤ length plain + 2 * length options) same (few (length words) near)
+    at_end false e near = let same : length words ≡ k = cc in subst (λ i. i ≤ length plain + 2 * length options) same near
 
     by_first : (first : Option ℕ) → first_unread plain options words ≡ first → place_or_missing first (is_complete plain options words) (length words) ≡ Some k → k ≤ length plain + 2 * length options
     by_first (Some j) is e =
         let first = found_first (λ i. not (can_be_read plain options words i)) 0 (length words) j is in
-        let near = near_from plain options words j named (omega (arith, first.1)) (λ i lt. not-false _ (first.2 i (omega arith) lt)) in
+        let near = read-le plain options words j named (omega (arith, first.1)) (λ i lt. not-false _ (first.2 i (omega arith) lt)) in
         let same : j ≡ k = cc in
-        subst (λ i. i ≤ length plain + 2 * length options) same (few j near)
+        subst (λ i. i ≤ length plain + 2 * length options) same near
     by_first None is e =
-        let near = near_from plain options words (length words) named (omega arith) (λ i lt. not-false _ (found_none (λ i. not (can_be_read plain options words i)) 0 (length words) is i (omega arith) (omega (arith, lt)))) in
+        let near = read-le plain options words (length words) named (omega arith) (λ i lt. not-false _ (found_none (λ i. not (can_be_read plain options words i)) 0 (length words) is i (omega arith) (omega (arith, lt)))) in
         at_end (is_complete plain options words) e near

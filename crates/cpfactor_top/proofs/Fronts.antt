@@ -7,12 +7,11 @@ use Rattle.std.proofs.lemmas.Grind.{flat_map-append}
 use Rattle.std.proofs.Math.Seq.{drop-cons}
 use Rattle.cp_outside.specs.Faults.{RoseOrFull}
 use Rattle.cp_outside.specs.Puts.{OnDone, OnPutFailed, OnPutOutOfMemory, appended, AppendsFront}
-use Rattle.cpfactor_top.specs.declared.ended.Cause.{Cause}
+use Rattle.cpfactor_top.specs.declared.ended.Ended.{Ended}
 use Rattle.cp_outside.specs.declared.sink.PutEnd.{PutEnd}
 use Rattle.cp_outside.specs.declared.sink.PutEnd.TheVariants.{Done, Failed, OutOfMemory}
-use Rattle.cpfactor_top.specs.Ending.{cause_after}
-use Rattle.cpfactor_top.specs.Endings.{Outlet, outlet, IsPut, EndsBy, IsOnly, IsAnswered}
-use Rattle.cpfactor_top.proofs.Endings.{ends_by_answer}
+use Rattle.cpfactor_top.specs.Ending.{ended_after}
+use Rattle.cpfactor_top.specs.Endings.{Outlet, outlet, IsPut, EndsBy, IsOnly}
 
 pub appended-nil : (old : Option (List ℕ)) → old ≡ appended old []
 unfolding appended
@@ -91,10 +90,14 @@ put_behind a b old mid new before between after OutOfMemory is le put = subst (A
 pub put_before : (a b : List ℕ) (old new : Option (List ℕ)) (before after : ℕ) → AppendsFront old new a → AppendsFront old new (a ++ b)
 put_before a b old new before after front = front_behind old old new [] a b (appended-nil old) front
 
-pub ends_by_put : (cause : Cause) (text : List ℕ) (o : Outlet) (end : PutEnd) → IsAnswered cause → IsPut text o end → EndsBy (IsOnly cause text) o (cause_after end cause)
-ends_by_put cause text o Done is put = ends_by_answer (IsOnly cause text) o cause is (record { text = text; answer = (refl, refl); written = put })
-ends_by_put cause text o Failed is put = record { rose = put.0; front = inl (record { cause = cause; text = text; answer = (refl, refl); front = put.1 }) }
-ends_by_put cause text o OutOfMemory is put = inr (inr (record { cause = cause; text = text; answer = (refl, refl); front = put }))
+pub ends_by_put : (e : Ended) (text : List ℕ) (o : Outlet) (end : PutEnd) → IsPut text o end → EndsBy (IsOnly e text) o (ended_after end e)
+ends_by_put e text o Done put = inl (record { text = text; answer = (refl, refl); written = put })
+ends_by_put e text o Failed put = inr (inl (record { fault = refl; rose = put.0; front = inl (record { due = e; text = text; answer = (refl, refl); front = put.1 }) }))
+ends_by_put e text o OutOfMemory put = inr (inr (record { memory = refl; front = inr (inr (record { due = e; text = text; answer = (refl, refl); front = put })) }))
+
+pub ended_by_put : (e given made : Ended) (text : List ℕ) (o : Outlet) (end : PutEnd) → given ≡ e → made ≡ ended_after end given → IsPut text o end → EndsBy (IsOnly e text) o made
+ended_by_put e given made text o end same is put =
+    subst (EndsBy (IsOnly e text) o) (sym (is ∙ ap (ended_after end) same)) (ends_by_put e text o end put)
 
 -- what one put says
 pub put_is : (text bytes : List ℕ) (old new : Option (List ℕ)) (before after : ℕ) (end : PutEnd) → bytes ≡ text

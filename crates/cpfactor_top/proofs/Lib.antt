@@ -1,13 +1,18 @@
 pub mod LineLemmas
 pub mod Endings
 pub mod Fronts
-pub mod TermLines
+pub mod Listings
 pub mod StartTerms
 pub mod StartWeighing
 pub mod AnswerLaws
-pub mod ClearedEntries
+pub mod SearchValues
 pub mod WordsAnswers
+pub mod ClearedEntries
 pub mod FaultPlaces
 pub mod NearFaults
 pub mod OneWay
-pub mod Solve
+mod Examples
+pub mod Numerals
+pub mod Rows
+pub mod Readers
+pub mod Readings

@@ -1,5 +1,5 @@
 -- The additions by which the weights over the start vectors are made.
-use Rattle.std.specs.Prelude.{◌≡◌, ℕ, zero, suc, ◌+◌, ◌-◌, ◌<◌, ℤ, pos, neg_ℤ, ◌+ℤ◌, List, [], ◌∷◌, ◌++◌, length, map, Option, Some, None, Result, Ok, Err}
+use Rattle.std.specs.Prelude.{◌≡◌, ℕ, zero, suc, ◌+◌, ◌-◌, ◌<◌, ℤ, pos, neg_ℤ, ◌+ℤ◌, List, [], ◌∷◌, ◌++◌, length, map, Some, None, Ok, Err}
 use Rattle.std.proofs.Common.{refl, sym, ap, ◌∙◌, subst, arith, append_assoc}
 use Rattle.std.proofs.lemmas.List.{append-nil, map-append, length-append, length-map}
 use Rattle.symmetric_matrix.specs.declared.operation.IntOp.{IntOp}
@@ -8,7 +8,7 @@ use Rattle.symmetric_matrix.specs.Operations.{is_owed, add_op}
 use Rattle.symmetric_matrix.specs.Symmetric.{Symmetric, entry}
 use Rattle.symmetric_matrix.specs.StartVectors.{Run, runs_from, late_runs}
 use Rattle.symmetric_matrix.specs.StartWeights.{framed, start_weight, start_weights}
-use Rattle.symmetric_matrix.proofs.Owed.{answer-append_err, answer-append_ok, answer-map_err, answer-map_ok, answer_is_first_owed, first_owed-append_some, first_owed-append_none}
+use Rattle.symmetric_matrix.proofs.Owed.{answer-append_err, answer-append_ok, answer-map_err, answer-map_ok, none_of_ok, some_of_err, first_owed-append_some, first_owed-append_none}
 use Rattle.symmetric_matrix.proofs.Runs.{runs_from_none, runs_from_more, late_runs_none, late_runs_more}
 use Rattle.cpfactor_top.specs.declared.start_weight.WideWeight.{WideWeight}
 use Rattle.cpfactor_top.specs.declared.start_weight.StartFail.{StartFail}
@@ -76,20 +76,6 @@ weighing_ops-append s at (x ∷ xs) ys =
     ap (λ (rest : List WideWeight). ops ++ rest) (weighing_ops-append s (at + 1) xs ys ∙ ap (λ (k : ℕ). weighing_ops s (at + 1) xs ++ weighing_ops s k ys) e)
     ∙ sym (append_assoc ops (weighing_ops s (at + 1) xs) (weighing_ops s (at + suc (length xs)) ys))
 
-first_of_ok : (ops : List WideWeight) (u z : ℤ) → answer is_weight_owed ops u ≡ Ok z → (first_owed is_weight_owed ops ≡ None) × (u ≡ z)
-first_of_ok ops u z h = by (first_owed is_weight_owed ops) refl (sym (answer_is_first_owed is_weight_owed ops u) ∙ h)
-  where
-    by : (o : Option WideWeight) → first_owed is_weight_owed ops ≡ o → elim o as (λ _. Result ℤ WideWeight) [ None ↦ Ok u | Some op ↦ Err op ] ≡ Ok z → (first_owed is_weight_owed ops ≡ None) × (u ≡ z)
-    by None e h = (e, cc)
-    by (Some w) e h = absurd cc
-
-first_of_err : (ops : List WideWeight) (u : ℤ) (w : WideWeight) → answer is_weight_owed ops u ≡ Err w → first_owed is_weight_owed ops ≡ Some w
-first_of_err ops u w h = by (first_owed is_weight_owed ops) refl (sym (answer_is_first_owed is_weight_owed ops u) ∙ h)
-  where
-    by : (o : Option WideWeight) → first_owed is_weight_owed ops ≡ o → elim o as (λ _. Result ℤ WideWeight) [ None ↦ Ok u | Some op ↦ Err op ] ≡ Err w → first_owed is_weight_owed ops ≡ Some w
-    by None e h = absurd cc
-    by (Some v) e h = e ∙ cc
-
 -- the weights that stand before and those of these runs, all of whose additions fit
 pub record AreWeighed (s : Symmetric) (before : List ℤ) (runs : List Run) (made : List ℤ) : Type 0 where
   pub weights : made ≡ before ++ map (start_weight s.size (entry s)) runs
@@ -128,11 +114,11 @@ weighed_refused s before mid xs ys zs (Wide w) a h =
 pub weighed_one : (s : Symmetric) (before new : List ℤ) (run : Run) (weight : ℤ)
     → answer is_weight_owed (weighing_ops s (length before) (run ∷ [])) (start_weight s.size (entry s) run) ≡ Ok weight → new ≡ before ++ weight ∷ [] → AreWeighed s before (run ∷ []) new
 weighed_one s before new run weight h pushed =
-    let first = first_of_ok (weighing_ops s (length before) (run ∷ [])) (start_weight s.size (entry s) run) weight h in
+    let first = none_of_ok is_weight_owed (weighing_ops s (length before) (run ∷ [])) (start_weight s.size (entry s) run) weight h in
     record { weights = pushed ∙ ap (λ (w : ℤ). before ++ w ∷ []) (sym first.1); fits = first.0 }
 
 pub refused_one : (s : Symmetric) (at : ℕ) (run : Run) (u : ℤ) (w : WideWeight) → answer is_weight_owed (weighing_ops s at (run ∷ [])) u ≡ Err w → IsWeighingFail (weighing_ops s at (run ∷ [])) (Wide w)
-refused_one s at run u w h = first_of_err (weighing_ops s at (run ∷ [])) u w h
+refused_one s at run u w h = some_of_err is_weight_owed (weighing_ops s at (run ∷ [])) u w h
 
 -- ---- the runs of a row
 pub row_start : (s : Symmetric) (before : List ℤ) (first k : ℕ) → k ≡ 0 → AreWeighed s before (runs_from first k) before

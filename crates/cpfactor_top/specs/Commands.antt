@@ -1,6 +1,7 @@
 -- The commands, and what a command line asks for.
 --
---     Request                  a command with what its words say; file names are bytes
+--     Request                  a command with what its words say: a file's name as bytes, then a depth
+--     HasRanges r              the numbers of a request are in their ranges
 --     CommandRow               a command: its name, the forms of its plain arguments, its options, and its request
 --     commands                 the commands of the program
 --     reading words            the request, or the position of the first word that cannot be read
@@ -11,12 +12,19 @@
 -- Options and plain arguments come in any order. An unknown command is at fault at position 1, an unknown or
 -- repeated option and a surplus plain argument at their own, a number out of form at the number's, and a missing
 -- word at the position after the last.
-use Rattle.std.specs.Prelude.{◌≡◌, ℕ, ◌+◌, List, [], ◌∷◌, Option, Some, None, Result, Ok, Err, ◌⊎◌, find, codes}
+use Rattle.std.specs.Prelude.{◌≡◌, ◌≤◌, ℕ, ◌+◌, List, [], ◌∷◌, Option, Some, None, Result, Ok, Err, ◌⊎◌, find, codes}
 use Rattle.std.specs.Str.{bytes_eq}
-use Rattle.cpfactor_top.specs.Reading.{Form, FileName, OptionRow, plain_argument, fault_place}
+use Rattle.cpfactor_top.specs.Reading.{Form, FileName, Number, OptionRow, plain_argument, option_value, fault_place}
 
 pub data Request : Type 0 where
   Solve : List ℕ → Request
+  Minimum : List ℕ → ℕ → Request
+  Copositive : List ℕ → ℕ → Request
+
+abbrev pub HasRanges : Request → Type 0
+HasRanges (Solve file) = Unit {0}
+HasRanges (Minimum file depth) = depth ≤ 200
+HasRanges (Copositive file depth) = depth ≤ 200
 
 pub record CommandRow : Type 0 where
   pub name : List ℕ
@@ -28,8 +36,33 @@ pub record CommandRow : Type 0 where
 abbrev pub solve : CommandRow
 solve = record { name = codes "solve"; plain = FileName ∷ []; options = []; request = λ words. Solve (plain_argument [] words 0) }
 
+-- the depth of a search
+abbrev pub depth : OptionRow
+depth = record { name = codes "--depth"; value = Some (Number 0 200) }
+
+abbrev pub depth_of : List (List ℕ) → ℕ
+depth_of words = option_value words (codes "--depth") 60
+
+-- minimum FILE [--depth N]
+abbrev pub minimum : CommandRow
+minimum = record {
+  name = codes "minimum";
+  plain = FileName ∷ [];
+  options = depth ∷ [];
+  request = λ words. Minimum (plain_argument (depth ∷ []) words 0) (depth_of words);
+}
+
+-- copositive FILE [--depth N]
+abbrev pub copositive : CommandRow
+copositive = record {
+  name = codes "copositive";
+  plain = FileName ∷ [];
+  options = depth ∷ [];
+  request = λ words. Copositive (plain_argument (depth ∷ []) words 0) (depth_of words);
+}
+
 abbrev pub commands : List CommandRow
-commands = solve ∷ []
+commands = solve ∷ minimum ∷ copositive ∷ []
 
 abbrev pub request_or_fault : Option ℕ → Request → Result Request ℕ
 request_or_fault None request = Ok request

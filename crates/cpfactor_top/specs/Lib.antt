@@ -4,7 +4,10 @@ pub mod Texts
 pub mod Endings
 pub mod StartCone
 pub mod StartWeighing
+pub mod Solving
+pub mod Searching
 pub mod Answers
 pub mod Reading
 pub mod Commands
 pub mod Requests
+pub mod Readers

@@ -4,17 +4,28 @@
 --     word_text word           the bytes of a word
 --     words_text words         those of each of them
 --     separated column word    the word, with a space before it in every column but the first
-use Rattle.std.specs.Prelude.{ℕ, zero, suc, List, [], ◌∷◌, ◌++◌, map}
+--     path_word path           a path's digits; the empty path is `-`
+use Rattle.std.specs.Prelude.{ℕ, zero, suc, ◌+◌, List, [], ◌∷◌, ◌++◌, map, codes}
 use Rattle.std.specs.List.{join_with_byte}
 use Rattle.std.specs.Fmt.{decimal, signed_decimal}
+use Rattle.unimodular_cone.specs.Paths.{Path, digit_of}
 use Rattle.cpfactor_top.specs.declared.line.Word.{Word}
-use Rattle.cpfactor_top.specs.declared.line.Word.TheVariants.{Text, Whole, Signed, Fraction}
+use Rattle.cpfactor_top.specs.declared.line.Word.TheVariants.{Text, Whole, Signed, Fraction, PathDigits}
+
+-- the digits of a path, as bytes
+unfoldable pub digits_text : Path → List ℕ
+digits_text path = map (λ side. 48 + digit_of side) path
+
+unfoldable pub path_word : Path → List ℕ
+path_word [] = codes "-"
+path_word (side ∷ path) = digits_text (side ∷ path)
 
 abbrev pub word_text : Word → List ℕ
 word_text (Text bytes) = bytes.now
 word_text (Whole number) = decimal number
 word_text (Signed number) = signed_decimal number
 word_text (Fraction num den) = signed_decimal num ++ 47 ∷ signed_decimal den
+word_text (PathDigits path) = path_word path.now
 
 abbrev pub words_text : List Word → List (List ℕ)
 words_text words = map word_text words

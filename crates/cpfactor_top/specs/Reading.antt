@@ -7,11 +7,12 @@
 --     wanted options words k       what the word at place k has to be for the option before it
 --     is_plain options words k     the word at place k is a plain argument
 --     plain_argument options words i     the plain argument number i, from 0
+--     option_value words name default    the number in the word after the option of that name, or else the default
 --     can_be_read plain options words k  the word at place k has the form wanted there, or is an option not given
 --                                  before, or has the form of the next plain argument
 --     fault_place plain options words    the first place with a word that cannot be read, else the place of a missing word
 use Rattle.std.specs.Prelude.{ℕ, zero, suc, Bool, false, not, ◌&&◌, ◌||◌, List, [], length, take, Option, Some, None, is_some, is_none, slice_index, slice_index_or, slice_get, nat_eq, nat_le, ◌==◌, if◌then◌else◌, find, filter, count_by, codes}
-use Rattle.std.specs.List.{list_any, range_with_len, starts_with}
+use Rattle.std.specs.List.{list_any, position, range_with_len, starts_with}
 use Rattle.std.specs.Option.{option_map_or, option_and_then}
 use Rattle.std.specs.Str.{bytes_eq, all_ascii_digits}
 use Rattle.std.specs.Str.Parse.{digits_value}
@@ -55,6 +56,10 @@ plain_before options words k = count_by (is_plain options words) (range_with_len
 unfoldable pub plain_argument : List OptionRow → List (List ℕ) → ℕ → List ℕ
 plain_argument options words i =
     word_at words (slice_index (filter (is_plain options words) (range_with_len 0 (length words))) i)
+
+unfoldable pub option_value : List (List ℕ) → List ℕ → ℕ → ℕ
+option_value words name default =
+    option_map_or (λ k. digits_value 10 (word_at words (suc k))) (position (λ word. bytes_eq word name) words) default
 
 -- an option of the command that no earlier word is
 abbrev pub is_new_option : List OptionRow → List (List ℕ) → ℕ → Bool

@@ -5,11 +5,16 @@
 --     factorization_text n terms   the line `factored n k`, then the lines of the k terms
 --     refusal words                the line `refused ..`
 --     fault_text fault             `refused text KIND LINE`
---     owed_text owed               `refused overflow PLACE KIND LEFT RIGHT`
-use Rattle.std.specs.Prelude.{ℕ, List, [], ◌∷◌, ◌++◌, length, map, codes}
+--     owed_text owed               `refused overflow PLACE KIND LEFT RIGHT`, `refused overflow Gram PATH ..` or `refused overflow Bound DIAGONAL`
+--     depth_text path              `refused depth PATH`
+--     vector_line x                the line of a vector's coordinates
+--     minimum_text d m vectors     the line `minimum p/q` for m over d, the line `vectors c`, then the lines of the c vectors
+--     low_text d x z path          `low value p/q path PATH vector x1 x2 ..` for the value z over d
+--     copositive_text n            `copositive n`
+use Rattle.std.specs.Prelude.{ℕ, ℤ, nat_abs, List, [], ◌∷◌, ◌++◌, length, map, codes}
 use Rattle.std.specs.List.{flat_map}
 use Rattle.std.specs.Fmt.{decimal, signed_decimal}
-use Rattle.exact_forms.specs.Rational.{Rational}
+use Rattle.exact_forms.specs.Rational.{Rational, ratio}
 use Rattle.exact_forms.specs.Factors.{WeightedVector}
 use Rattle.symmetric_matrix.specs.declared.operation.IntKind.{IntKind}
 use Rattle.symmetric_matrix.specs.declared.operation.IntKind.TheVariants.{Mul, Add}
@@ -17,9 +22,11 @@ use Rattle.symmetric_matrix.specs.declared.operation.IntOp.{IntOp}
 use Rattle.matrix_text.specs.declared.fault.TextFault.{TextFault}
 use Rattle.matrix_text.specs.declared.fault.TextKind.{TextKind}
 use Rattle.matrix_text.specs.declared.fault.TextKind.TheVariants.{NotAscii, NoHeader, BadVersion, BadDimension, MissingRow, ShortRow, LongRow, BadNumber, ZeroDenominator, NumberTooLarge, NotSymmetric, ExtraLine}
+use Rattle.unimodular_cone.specs.Paths.{Path}
+use Rattle.unimodular_cone.specs.declared.WideEntry.{WideEntry}
 use Rattle.cpfactor_top.specs.declared.ended.Owed.{Owed}
-use Rattle.cpfactor_top.specs.declared.ended.Owed.TheVariants.{Clear, Start}
-use Rattle.cpfactor_top.specs.Lines.{line}
+use Rattle.cpfactor_top.specs.declared.ended.Owed.TheVariants.{Clear, Start, Gram, Bound}
+use Rattle.cpfactor_top.specs.Lines.{line, path_word}
 
 abbrev pub fraction_text : Rational → List ℕ
 fraction_text w = signed_decimal w.num ++ 47 ∷ decimal w.den
@@ -63,9 +70,37 @@ operation_word Add = codes "Add"
 abbrev pub overflow_text : List ℕ → IntOp → List ℕ
 overflow_text place op = refusal (codes "overflow" ∷ place ∷ operation_word op.kind ∷ signed_decimal op.left ∷ signed_decimal op.right ∷ [])
 
+abbrev pub entry_text : Path → List ℕ → ℕ → ℕ → List ℕ
+entry_text path kind first second = refusal (codes "overflow" ∷ codes "Gram" ∷ path_word path ∷ kind ∷ decimal first ∷ decimal second ∷ [])
+
+abbrev pub wide_text : Path → WideEntry → List ℕ
+wide_text path (WideEntry.Coordinate generator place) = entry_text path (codes "coordinate") generator place
+wide_text path (WideEntry.Gram row column) = entry_text path (codes "gram") row column
+
 abbrev pub owed_text : Owed → List ℕ
 owed_text (Clear row column op) = overflow_text (codes "Clear") op
 owed_text (Start vector op) = overflow_text (codes "Start") op
+owed_text (Gram at) = wide_text at.path at.entry
+owed_text (Bound diagonal) = refusal (codes "overflow" ∷ codes "Bound" ∷ signed_decimal diagonal ∷ [])
+
+abbrev pub depth_text : Path → List ℕ
+depth_text path = refusal (codes "depth" ∷ path_word path ∷ [])
+
+abbrev pub value_text : ℤ → ℤ → List ℕ
+value_text z d = fraction_text (ratio z (nat_abs d))
+
+unfoldable pub vector_line : List ℕ → List ℕ
+vector_line x = line (map decimal x)
+
+unfoldable pub minimum_text : ℤ → ℤ → List (List ℕ) → List ℕ
+minimum_text d m vectors =
+    line (codes "minimum" ∷ value_text m d ∷ []) ++ (line (codes "vectors" ∷ decimal (length vectors) ∷ []) ++ flat_map vector_line vectors)
+
+unfoldable pub low_text : ℤ → List ℕ → ℤ → Path → List ℕ
+low_text d x z path = line (codes "low" ∷ codes "value" ∷ value_text z d ∷ codes "path" ∷ path_word path ∷ codes "vector" ∷ map decimal x)
+
+abbrev pub copositive_text : ℕ → List ℕ
+copositive_text n = line (codes "copositive" ∷ decimal n ∷ [])
 
 abbrev pub outside_text : List ℕ
 outside_text = refusal (codes "not-yet" ∷ codes "outside" ∷ [])

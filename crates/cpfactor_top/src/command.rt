@@ -5,6 +5,10 @@
 pub enum Command<'a> {
     /// `solve FILE`: factors or separates the matrix of a file.
     Solve { file: &'a str },
+    /// `minimum FILE [--depth N]`: the copositive minimum of the matrix of a file, and its minimal vectors.
+    Minimum { file: &'a str, depth: u8 },
+    /// `copositive FILE [--depth N]`: whether the matrix of a file is copositive.
+    Copositive { file: &'a str, depth: u8 },
 }
 
 /// A command line that is none of the program's.

@@ -1,21 +1,26 @@
 //! How a command ends: its status and its cause.
 
 ghost use Rattle.std.specs.Prelude.{◌≡◌};
-ghost use Rattle.cpfactor_top.specs.Ending.{status_number, status_of, cause_after};
+ghost use Rattle.cpfactor_top.specs.Ending.{status_number, ending, ended_after};
 
 use cp_outside::PutEnd;
 use matrix_text::TextFault;
 use symmetric_matrix::IntOp;
+use unimodular_cone::{Path, WideAt};
 
 /// The kind of an ending, which the program's exit status shows.
 #[derive(Clone, Copy, Debug, PartialEq, Eq)]
 pub enum Status {
     /// A verdict was written.
     Done,
+    /// A verdict that separates was written, or a value that is too low.
+    Separated,
     /// The command line is faulty.
     Usage,
     /// The matrix text is refused.
     Text,
+    /// The search came to its depth.
+    Depth,
     /// A file could not be read.
     Read,
     /// The sink failed.
@@ -35,8 +40,10 @@ impl Status {
     {
         match self {
             Status::Done => 0,
+            Status::Separated => 10,
             Status::Usage => 2,
             Status::Text => 3,
+            Status::Depth => 4,
             Status::Overflow => 6,
             Status::Read => 7,
             Status::Write => 8,
@@ -53,19 +60,23 @@ pub enum Lacking {
     Outside,
 }
 
-/// An operation whose exact result doesn't fit: its magnitude is over 2^127 - 1.
+/// What doesn't fit: an operation's exact result, whose magnitude is over 2^127 - 1, or an entry of a search.
 #[derive(Clone, Copy, Debug, PartialEq, Eq)]
 pub enum Owed {
     /// In clearing the matrix of its denominators, at the entry in this row and column, counted from 1.
     Clear { row: u8, column: u8, op: IntOp },
     /// In the weight of the start vector of this index, counted from 0.
     Start { vector: usize, op: IntOp },
+    /// An entry of a cone: of its path, a coordinate over 2^62 or an entry of the Gram matrix over 2^100 in magnitude.
+    Gram { at: WideAt },
+    /// The least diagonal entry of the matrix that is searched, which is over 2^63 - 1.
+    Bound { diagonal: i128 },
 }
 
 /// Why a command ended as it did.
 #[derive(Clone, Copy, Debug, PartialEq, Eq)]
 pub enum Cause {
-    /// The verdict was written.
+    /// The verdict was written, or the value that is too low.
     Fine,
     /// The word at this position, counted from 1, can't be read.
     Usage { position: u32 },
@@ -73,7 +84,9 @@ pub enum Cause {
     TooLong,
     /// The matrix text has this first fault.
     MatrixFault(TextFault),
-    /// The result of this operation doesn't fit.
+    /// The search leaves the cone of this path open: its first open path, which has as many digits as the depth allows.
+    Depth { path: Path },
+    /// This doesn't fit.
     Overflow(Owed),
     /// The input needs what isn't built yet.
     NotYet { what: Lacking },
@@ -93,16 +106,16 @@ pub struct Ended {
 }
 
 impl Ended {
-    /// The ending with this cause.
+    /// The ending with this cause. `Fine` comes with the status `Done`.
     pub fn by(cause: Cause) -> Ended
-        ensures cause { result.cause ≡ cause }
-        ensures status { result.status ≡ status_of cause }
+        ensures { result ≡ ending cause }
     {
         let status = match cause {
             Cause::Fine => Status::Done,
             Cause::Usage { .. } => Status::Usage,
             Cause::TooLong => Status::Text,
             Cause::MatrixFault(_) => Status::Text,
+            Cause::Depth { .. } => Status::Depth,
             Cause::Overflow(_) => Status::Overflow,
             Cause::NotYet { .. } => Status::NotYet,
             Cause::ReadFault => Status::Read,
@@ -112,13 +125,12 @@ impl Ended {
         Ended { status, cause }
     }
 
-    /// The ending with this cause after the text of its answer was put, up to this end.
-    pub fn after(end: PutEnd, cause: Cause) -> Ended
-        ensures cause { result.cause ≡ cause_after end cause }
-        ensures status { result.status ≡ status_of result.cause }
+    /// This ending after the text of its answer was put, up to this end.
+    pub fn after(self, end: PutEnd) -> Ended
+        ensures { result ≡ ended_after end self }
     {
         match end {
-            PutEnd::Done => Ended::by(cause),
+            PutEnd::Done => self,
             PutEnd::Failed => Ended::by(Cause::WriteFault),
             PutEnd::OutOfMemory => Ended::by(Cause::Memory),
         }

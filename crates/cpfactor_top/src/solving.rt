@@ -1,10 +1,11 @@
 //! The command `solve`.
 
 ghost use Rattle.std.specs.Prelude.{◌≡◌, ◌≤◌, ◌≤ℤ◌, pos, nat_abs, length, Ok, None};
-ghost use Rattle.cpfactor_top.specs.declared.ended.Cause.{Cause as the_cause};
+ghost use Rattle.cpfactor_top.specs.declared.ended.Ended.{Ended as an_ending};
 ghost use Rattle.cpfactor_top.specs.Endings.{EndsBy, outlet};
-ghost use Rattle.cpfactor_top.specs.Ending.{status_of};
-ghost use Rattle.cpfactor_top.specs.Answers.{IsSolveAnswer, IsMatrixAnswer, IsSolveDue, YieldsTo};
+ghost use Rattle.cpfactor_top.specs.Ending.{HasStatus};
+ghost use Rattle.cpfactor_top.specs.Solving.{IsSolved, IsSolveDue};
+ghost use Rattle.cpfactor_top.specs.Answers.{IsBytesAnswer, IsBytesDue, YieldsTo};
 ghost use Rattle.symmetric_matrix.specs.Owed.{answer, first_owed};
 ghost use Rattle.symmetric_matrix.specs.Symmetric.{entry};
 ghost use Rattle.symmetric_matrix.specs.StartWeights.{start_weights};
@@ -13,13 +14,13 @@ ghost use Rattle.cpfactor_top.specs.StartWeighing.{start_ops, is_weight_owed};
 
 use crate::ended::{Cause, Ended, Lacking, Owed};
 use crate::factorization::put_factorization;
+use crate::given::{clear_or_refuse, read_or_refuse};
 use crate::line::Word;
-use crate::names::fault_name;
 use crate::refuse::{refuse, refuse_overflow, want_memory};
 use crate::start_terms::start_terms;
 use crate::start_weight::{StartFail, start_weights};
 use cp_outside::Sink;
-use matrix_text::{ClearFail, RatMatrix, TextFail, cleared, read_matrix};
+use matrix_text::RatMatrix;
 use std::alloc::Global;
 use symmetric_matrix::SymInt;
 
@@ -32,11 +33,11 @@ use symmetric_matrix::SymInt;
 /// was wanting. It always returns.
 pub fn solve_alone<K: Sink>(alloc: Global, bytes: &[u8], sink: &mut K) -> Ended
     requires { length bytes.now ≤ 1048576 }
-    ensures status { result.status ≡ status_of result.cause }
-    // The cause holds, and the text of the answer is written, or a front of it.
-    ensures ended { EndsBy (IsSolveAnswer bytes.now) (outlet (K.told sink.old) (K.told sink.new) (K.faults sink.old) (K.faults sink.new)) result.cause }
-    // Each answer comes where it is due.
-    ensures due { (cause : the_cause) → IsSolveDue bytes.now cause → YieldsTo cause result.cause }
+    ensures status { HasStatus result }
+    // The ending is that of an answer, whose text is written; or a front of it, where the sink failed or memory was wanting.
+    ensures ended { EndsBy (IsBytesAnswer IsSolved bytes.now) (outlet (K.told sink.old) (K.told sink.new) (K.faults sink.old) (K.faults sink.new)) result }
+    // Each ending comes where it is due.
+    ensures due { (e : an_ending) → IsBytesDue IsSolveDue bytes.now e → YieldsTo e result }
 {
     solve_bytes(alloc, bytes, sink)
 }
@@ -44,39 +45,21 @@ pub fn solve_alone<K: Sink>(alloc: Global, bytes: &[u8], sink: &mut K) -> Ended
 /// Reads a matrix text and factors its matrix.
 fn solve_bytes<K: Sink>(alloc: Global, bytes: &[u8], sink: &mut K) -> Ended
     requires { length bytes.now ≤ 1048576 }
-    ensures status { result.status ≡ status_of result.cause }
-    ensures ended { EndsBy (IsSolveAnswer bytes.now) (outlet (K.told sink.old) (K.told sink.new) (K.faults sink.old) (K.faults sink.new)) result.cause }
+    ensures { EndsBy (IsBytesAnswer IsSolved bytes.now) (outlet (K.told sink.old) (K.told sink.new) (K.faults sink.old) (K.faults sink.new)) result }
 {
-    match read_matrix(alloc, bytes) {
+    match read_or_refuse(alloc, bytes, sink) {
         Ok(a) => solve_matrix(alloc, &a, sink),
-        Err(TextFail::Fault(fault)) => refuse(
-            alloc,
-            sink,
-            Cause::MatrixFault(fault),
-            &[
-                Word::Text(b"refused"),
-                Word::Text(b"text"),
-                Word::Text(fault_name(fault.kind)),
-                Word::Whole(u64::from(fault.line)),
-            ],
-        ),
-        Err(TextFail::OutOfMemory) => want_memory(sink),
+        Err(ended) => ended,
     }
 }
 
 /// Factors a matrix over the start vectors.
 fn solve_matrix<K: Sink>(alloc: Global, a: &RatMatrix, sink: &mut K) -> Ended
-    ensures status { result.status ≡ status_of result.cause }
-    ensures ended { EndsBy (IsMatrixAnswer a.now) (outlet (K.told sink.old) (K.told sink.new) (K.faults sink.old) (K.faults sink.new)) result.cause }
+    ensures { EndsBy (IsSolved a.now) (outlet (K.told sink.old) (K.told sink.new) (K.faults sink.old) (K.faults sink.new)) result }
 {
-    match cleared(alloc, a) {
+    match clear_or_refuse(alloc, a, sink) {
         Ok((s, d)) => solve_cleared(alloc, a, &s, d, sink),
-        Err(ClearFail::Wide { row, column, op }) => refuse_overflow(
-            alloc,
-            sink,
-            Owed::Clear { row, column, op },
-        ),
-        Err(ClearFail::OutOfMemory) => want_memory(sink),
+        Err(ended) => ended,
     }
 }
 
@@ -85,8 +68,7 @@ fn solve_cleared<K: Sink>(alloc: Global, a: &RatMatrix, s: &SymInt, d: i128, sin
     requires clearable { answer is_placed_owed (clear_ops a.now) (cleared_of a.now) ≡ Ok (s.now, d) }
     requires cleared { IsCleared a.now s.now (nat_abs d) }
     requires positive { pos 1 ≤ℤ d }
-    ensures status { result.status ≡ status_of result.cause }
-    ensures ended { EndsBy (IsMatrixAnswer a.now) (outlet (K.told sink.old) (K.told sink.new) (K.faults sink.old) (K.faults sink.new)) result.cause }
+    ensures { EndsBy (IsSolved a.now) (outlet (K.told sink.old) (K.told sink.new) (K.faults sink.old) (K.faults sink.new)) result }
 {
     match start_weights(alloc, s) {
         Ok(weights) => solve_weighed(alloc, a, s, d, &weights, sink),
@@ -116,8 +98,7 @@ fn solve_weighed<K: Sink>(
     requires positive { pos 1 ≤ℤ d }
     requires weighable { first_owed is_weight_owed (start_ops s.now) ≡ None }
     requires weights { weights.now ≡ start_weights s.now.size (entry s.now) }
-    ensures status { result.status ≡ status_of result.cause }
-    ensures ended { EndsBy (IsMatrixAnswer a.now) (outlet (K.told sink.old) (K.told sink.new) (K.faults sink.old) (K.faults sink.new)) result.cause }
+    ensures { EndsBy (IsSolved a.now) (outlet (K.told sink.old) (K.told sink.new) (K.faults sink.old) (K.faults sink.new)) result }
 {
     match start_terms(alloc, s, d, weights) {
         Ok(Some(terms)) => put_factorization(alloc, sink, a.n(), &terms),

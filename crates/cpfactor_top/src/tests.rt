@@ -1,9 +1,10 @@
 //! Whole runs, through the call that the program makes.
 
-use crate::{Cause, Ended, Status, run, solve_alone};
+use crate::{minimum_alone, run, solve_alone};
 use cp_outside::{MemFiles, MemSink};
 use std::alloc::{AllocError, Global};
 use std::test::Fail;
+use unimodular_cone::Mode;
 
 fn words_of(alloc: Global, line: &str) -> Result<Vec<String>, AllocError> {
     let mut words = Vec::new(alloc);
@@ -13,17 +14,17 @@ fn words_of(alloc: Global, line: &str) -> Result<Vec<String>, AllocError> {
     Ok(words)
 }
 
-/// What a command line answers where the file `a` has these bytes.
-fn answer_to(
+/// The exit status of a command line where the file `a` has these bytes.
+fn status_after(
     alloc: Global,
     line: &str,
     bytes: &[u8],
     sink: &mut MemSink,
-) -> Result<Ended, AllocError> {
+) -> Result<u8, AllocError> {
     let words = words_of(alloc, line)?;
     let mut files = MemFiles::new(alloc);
     files.add("a", bytes)?;
-    Ok(run(alloc, &words, &mut files, sink))
+    Ok(run(alloc, &words, &mut files, sink).status.number())
 }
 
 const TWO_BY_TWO: &str = "cpmatrix 1 2\n2 1\n1 2\n";
@@ -54,9 +55,95 @@ fn matrices_are_factored_or_named(rt: HostRuntime) -> Result<(), Fail> {
     ];
     for (text, status, expected) in cases {
         let mut sink = MemSink::with_room(rt.alloc(), 200)?;
-        let ended = answer_to(rt.alloc(), "solve a", text.as_bytes(), &mut sink)?;
-        assert_eq!(rt; ended.status.number(), status, "at {text}");
+        let ended = status_after(rt.alloc(), "solve a", text.as_bytes(), &mut sink)?;
+        assert_eq!(rt; ended, status, "at {text}");
         assert_eq!(rt; sink.bytes(), expected.as_bytes(), "at {text}");
+    }
+    Ok(())
+}
+
+const DEEP: &str = "cpmatrix 1 3\n10 -6 -7\n-6 4 5\n-7 5 20\n";
+
+const NARROW: &str = "cpmatrix 1 2\n2 -3\n-3 6\n";
+
+#[test]
+fn searches_end_with_a_minimum_a_low_value_or_a_refusal(rt: HostRuntime) -> Result<(), Fail> {
+    let cases = [
+        (
+            "minimum a",
+            "cpmatrix 1 3\n2 -1 0\n-1 2 -1\n0 -1 2\n",
+            0,
+            "minimum 2/1\nvectors 6\n0 0 1\n0 1 0\n0 1 1\n1 0 0\n1 1 0\n1 1 1\n",
+        ),
+        (
+            "minimum a",
+            "cpmatrix 1 2\n1/2 0\n0 1/3\n",
+            0,
+            "minimum 1/3\nvectors 1\n0 1\n",
+        ),
+        (
+            "minimum a",
+            "cpmatrix 1 2\n1 -1\n-1 1\n",
+            10,
+            "low value 0/1 path 0 vector 1 1\n",
+        ),
+        ("minimum a --depth 1", DEEP, 4, "refused depth 0\n"),
+        ("minimum --depth 2 a", DEEP, 4, "refused depth 10\n"),
+        (
+            "minimum a --depth 3",
+            DEEP,
+            0,
+            "minimum 2/1\nvectors 2\n1 1 0\n1 2 0\n",
+        ),
+        ("minimum a --depth 1", NARROW, 4, "refused depth 1\n"),
+        (
+            "minimum a --depth 2",
+            NARROW,
+            0,
+            "minimum 2/1\nvectors 3\n1 0\n1 1\n2 1\n",
+        ),
+        (
+            "minimum a",
+            "cpmatrix 1 2\n9223372036854775807 1/2\n1/2 9223372036854775807\n",
+            6,
+            "refused overflow Bound 18446744073709551614\n",
+        ),
+        (
+            "minimum a",
+            "cpmatrix 1 2\n9223372036854775807 0\n0 1/9223372036854775806\n",
+            6,
+            "refused overflow Gram - gram 1 1\n",
+        ),
+        (
+            "copositive a",
+            "cpmatrix 1 2\n0 1\n1 0\n",
+            0,
+            "copositive 2\n",
+        ),
+        (
+            "copositive a",
+            "cpmatrix 1 2\n2 -1\n-1 0\n",
+            10,
+            "low value -2/1 path 00 vector 1 2\n",
+        ),
+        (
+            "copositive a --depth 0",
+            "cpmatrix 1 2\n2 -1\n-1 0\n",
+            4,
+            "refused depth -\n",
+        ),
+        (
+            "copositive a",
+            "cpmatrix 1 1\n1/0\n",
+            3,
+            "refused text ZeroDenominator 2\n",
+        ),
+    ];
+    for (line, text, status, expected) in cases {
+        let mut sink = MemSink::with_room(rt.alloc(), 200)?;
+        let ended = status_after(rt.alloc(), line, text.as_bytes(), &mut sink)?;
+        assert_eq!(rt; ended, status, "at {line} {text}");
+        assert_eq!(rt; sink.bytes(), expected.as_bytes(), "at {line} {text}");
     }
     Ok(())
 }
@@ -78,8 +165,8 @@ fn faulty_texts_are_refused_with_their_first_fault(rt: HostRuntime) -> Result<()
     ];
     for (text, expected) in cases {
         let mut sink = MemSink::with_room(rt.alloc(), 200)?;
-        let ended = answer_to(rt.alloc(), "solve a", text.as_bytes(), &mut sink)?;
-        assert_eq!(rt; ended.status.number(), 3, "at {text}");
+        let status = status_after(rt.alloc(), "solve a", text.as_bytes(), &mut sink)?;
+        assert_eq!(rt; status, 3, "at {text}");
         assert_eq!(rt; sink.bytes(), expected.as_bytes(), "at {text}");
     }
     Ok(())
@@ -99,9 +186,8 @@ fn operations_that_do_not_fit_are_named(rt: HostRuntime) -> Result<(), Fail> {
     ];
     for (text, expected) in cases {
         let mut sink = MemSink::with_room(rt.alloc(), 200)?;
-        let ended = answer_to(rt.alloc(), "solve a", text.as_bytes(), &mut sink)?;
-        assert_eq!(rt; ended.status, Status::Overflow, "at {text}");
-        assert_eq!(rt; ended.status.number(), 6);
+        let status = status_after(rt.alloc(), "solve a", text.as_bytes(), &mut sink)?;
+        assert_eq!(rt; status, 6, "at {text}");
         assert_eq!(rt; sink.bytes(), expected.as_bytes(), "at {text}");
     }
     Ok(())
@@ -111,15 +197,15 @@ fn operations_that_do_not_fit_are_named(rt: HostRuntime) -> Result<(), Fail> {
 fn faulty_words_are_refused_at_their_position(rt: HostRuntime) -> Result<(), Fail> {
     let cases = [
         ("", "refused usage 1\n"),
-        ("minimum a", "refused usage 1\n"),
+        ("check a b", "refused usage 1\n"),
+        ("minimum a --depth 201", "refused usage 4\n"),
         ("solve", "refused usage 2\n"),
         ("solve a b", "refused usage 3\n"),
     ];
     for (line, expected) in cases {
         let mut sink = MemSink::with_room(rt.alloc(), 200)?;
-        let ended = answer_to(rt.alloc(), line, TWO_BY_TWO.as_bytes(), &mut sink)?;
-        assert_eq!(rt; ended.status, Status::Usage, "at {line}");
-        assert_eq!(rt; ended.status.number(), 2);
+        let status = status_after(rt.alloc(), line, TWO_BY_TWO.as_bytes(), &mut sink)?;
+        assert_eq!(rt; status, 2, "at {line}");
         assert_eq!(rt; sink.bytes(), expected.as_bytes(), "at {line}");
     }
     Ok(())
@@ -129,9 +215,8 @@ fn faulty_words_are_refused_at_their_position(rt: HostRuntime) -> Result<(), Fai
 fn a_file_over_the_limit_is_refused(rt: HostRuntime) -> Result<(), Fail> {
     let mut sink = MemSink::with_room(rt.alloc(), 200)?;
     let bytes = vec![in rt.alloc(); 48u8; 1_048_577]?;
-    let ended = answer_to(rt.alloc(), "solve a", &bytes, &mut sink)?;
-    assert_eq!(rt; ended.status.number(), 3);
-    assert_eq!(rt; ended.cause, Cause::TooLong);
+    let status = status_after(rt.alloc(), "solve a", &bytes, &mut sink)?;
+    assert_eq!(rt; status, 3);
     assert_eq!(rt; sink.bytes(), b"refused text TooLong\n".as_slice());
     Ok(())
 }
@@ -139,8 +224,8 @@ fn a_file_over_the_limit_is_refused(rt: HostRuntime) -> Result<(), Fail> {
 #[test]
 fn an_unknown_file_is_a_read_fault(rt: HostRuntime) -> Result<(), Fail> {
     let mut sink = MemSink::with_room(rt.alloc(), 200)?;
-    let ended = answer_to(rt.alloc(), "solve b", TWO_BY_TWO.as_bytes(), &mut sink)?;
-    assert_eq!(rt; ended.status.number(), 7);
+    let status = status_after(rt.alloc(), "solve b", TWO_BY_TWO.as_bytes(), &mut sink)?;
+    assert_eq!(rt; status, 7);
     assert_eq!(rt; sink.bytes(), b"refused read\n".as_slice());
     Ok(())
 }
@@ -152,5 +237,18 @@ fn a_failed_put_leaves_a_front_of_the_text(rt: HostRuntime) -> Result<(), Fail> 
     let ended = solve_alone(rt.alloc(), TWO_BY_TWO.as_bytes(), &mut sink);
     assert_eq!(rt; ended.status.number(), 8);
     assert_eq!(rt; sink.bytes(), b"factored 2 3\n1/1".as_slice());
+    Ok(())
+}
+
+#[test]
+fn a_failed_put_leaves_a_front_of_the_vectors(rt: HostRuntime) -> Result<(), Fail> {
+    let mut sink = MemSink::with_room(rt.alloc(), 200)?;
+    sink.fail_at(4, 3)?;
+    let ended = minimum_alone(rt.alloc(), NARROW.as_bytes(), Mode::Least, 2, &mut sink);
+    assert_eq!(rt; ended.status.number(), 8);
+    assert_eq!(rt;
+        sink.bytes(),
+        b"minimum 2/1\nvectors 3\n1 0\n1 1".as_slice()
+    );
     Ok(())
 }

@@ -1,6 +1,7 @@
 -- Laws of triangles.
-use Rattle.std.specs.Prelude.{◌⊎◌, ◌≡◌, ℕ, zero, suc, ◌+◌, ◌*◌, ◌<◌, ◌≤◌, ℤ, pos, ◌+ℤ◌, ◌*ℤ◌, List, [], ◌∷◌, length, slice_index_or}
+use Rattle.std.specs.Prelude.{◌⊎◌, ◌≡◌, ℕ, zero, suc, ◌+◌, ◌*◌, ◌<◌, ◌≤◌, ℤ, pos, ◌+ℤ◌, ◌*ℤ◌, Bool, true, false, nat_lt, if◌then◌else◌, List, [], ◌∷◌, map, length, slice_index_or}
 use Rattle.std.proofs.Common.{inl, inr, arith, sym, ◌∙◌, ap, ap₂, refl}
+use Rattle.std.proofs.Math.ListN.{get_or-map}
 use Rattle.commutative_ring.proofs.Expand.{expand, linear}
 use Rattle.exact_forms.specs.Sums.{sum_to}
 use Rattle.exact_forms.specs.Forms.{IsSymmetric}
@@ -138,3 +139,11 @@ sum_by_triangle (suc n) f s =
     sum_by_triangle n f (λ i j li lj. s i j (omega arith) (omega arith)) in
     let twice : pos 2 *ℤ sum_to n (λ j. f n j) ≡ sum_to n (λ j. f n j) +ℤ sum_to n (λ j. f n j) = simp expand in
     rw (sum_to-suc n (λ i. sum_to (suc n) (λ j. f i j)), sum_to-suc n (λ i. pos 2 *ℤ sum_to i (λ j. f i j) +ℤ f i i)) (omega (arith, linear))
+
+pub entry_in-map : {A B : Type 0} (f : A → B) (none : A) (xs : List A) (i j : ℕ) → entry_in (f none) (map f xs) i j ≡ f (entry_in none xs i j)
+unfolding entry_in
+entry_in-map f none xs i j = by (nat_lt i j)
+  where
+    by : (b : Bool) → (if b then slice_index_or (map f xs) (triangle j + i) (f none) else slice_index_or (map f xs) (triangle i + j) (f none)) ≡ f (if b then slice_index_or xs (triangle j + i) none else slice_index_or xs (triangle i + j) none)
+    by true = get_or-map f xs (triangle j + i) none
+    by false = get_or-map f xs (triangle i + j) none

@@ -5,3 +5,4 @@ pub mod Machine
 pub mod Scans
 pub mod Attaining
 pub mod Ends
+pub mod Theorems

@@ -107,3 +107,18 @@ first_owed-map {O} {Q} owed owed' tag (x ∷ xs) same =
         → (if b then Some (tag x) else first_owed owed' (map tag xs)) ≡ elim (if b then Some x else first_owed owed xs) as (λ _. Option Q) [ None ↦ None | Some op ↦ Some (tag op) ]
     by true h = refl
     by false h = h
+
+-- ---- what an answer says of the list
+pub none_of_ok : {O V : Type 0} (owed : O → Bool) (ops : List O) (v z : V) → answer owed ops v ≡ Ok z → (first_owed owed ops ≡ None) × (v ≡ z)
+none_of_ok {O} {V} owed ops v z h = by (first_owed owed ops) refl
+  where
+    by : (o : Option O) → first_owed owed ops ≡ o → (first_owed owed ops ≡ None) × (v ≡ z)
+    by None e = (e, let k : Ok v ≡ Ok z = sym (answer_is_first_owed owed ops v ∙ ap (λ f. elim f as (λ _. Result V O) [ None ↦ Ok v | Some op ↦ Err op ]) e) ∙ h in cc)
+    by (Some op) e = absurd (let k : Err op ≡ Ok z = sym (answer_is_first_owed owed ops v ∙ ap (λ f. elim f as (λ _. Result V O) [ None ↦ Ok v | Some op ↦ Err op ]) e) ∙ h in cc)
+
+pub some_of_err : {O V : Type 0} (owed : O → Bool) (ops : List O) (v : V) (err : O) → answer owed ops v ≡ Err err → first_owed owed ops ≡ Some err
+some_of_err {O} {V} owed ops v err h = by (first_owed owed ops) refl
+  where
+    by : (o : Option O) → first_owed owed ops ≡ o → first_owed owed ops ≡ Some err
+    by None e = absurd (let k : Ok v ≡ Err err = sym (answer_is_first_owed owed ops v ∙ ap (λ f. elim f as (λ _. Result V O) [ None ↦ Ok v | Some op ↦ Err op ]) e) ∙ h in cc)
+    by (Some op) e = e ∙ (let k : Err op ≡ Err err = sym (answer_is_first_owed owed ops v ∙ ap (λ f. elim f as (λ _. Result V O) [ None ↦ Ok v | Some op ↦ Err op ]) e) ∙ h in cc)

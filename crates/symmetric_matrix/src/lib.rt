@@ -12,7 +12,7 @@ mod vector_list;
 pub use divisor::gcd;
 pub use matrix::SymInt;
 pub use operation::{IntKind, IntOp, int_add, int_mul};
-pub use start::{start_vector, start_vectors, start_weights_are_coordinates};
+pub use start::{start_vectors, start_weights_are_coordinates};
 pub use vector::IntVector;
 pub use vector_list::VectorList;
 

@@ -25,19 +25,6 @@ pub fn start_vectors(alloc: Global, n: u8) -> Result<VectorList, AllocError>
     Ok(list)
 }
 
-/// The vector of `n` coordinates with ones from place `first` to place `last`, counted from 1, and zeros elsewhere.
-///
-/// It is one of the start vectors.
-pub fn start_vector(alloc: Global, n: u8, first: u8, last: u8) -> IntVector
-    requires small { n ≤ 8 }
-    requires positive { 1 ≤ first }
-    requires ordered { first ≤ last }
-    requires within { last ≤ n }
-    ensures { result ≡ run_vector n (record { first = first - 1; last = last - 1 }) }
-{
-    vector_of_run(alloc, n, first - 1, last - 1)
-}
-
 /// A law, with nothing to compute: the weights of a symmetric matrix over the start vectors are its coordinates, and there are no others.
 pub fn start_weights_are_coordinates()
     ensures write { StartWeightsWrite }

@@ -1,7 +1,15 @@
-use Rattle.cpfactor_top.specs.Endings.{outlet}
-use Rattle.cpfactor_top.proofs.AnswerLaws.{solve_yields}
+use Rattle.cpfactor_top.specs.Solving.{IsSolved, IsSolveDue}
+use Rattle.cpfactor_top.specs.Answers.{IsBytesAnswer}
+use Rattle.cpfactor_top.proofs.Endings.{ends_yield, ends_with_status}
+use Rattle.cpfactor_top.proofs.AnswerLaws.{solving, bytes_is_due, bytes_due_once, bytes_status}
 use Rattle.cpfactor_top.proofs.solving.solve_alone.Goals as goal
 
+pub returns-clause-status : goal.returns-clause-status
+returns-clause-status g c =
+    ends_with_status (IsBytesAnswer IsSolved c.args.bytes.now) _ _
+    (λ e text h. bytes_status IsSolved IsSolveDue solving c.args.bytes.now e (bytes_is_due IsSolved IsSolveDue solving c.args.bytes.now e text h)) c.solve_bytes.ensures
+
 pub returns-clause-due : goal.returns-clause-due
-returns-clause-due g c cause due =
-    solve_yields c.args.bytes.now (outlet (g.K.Sink.told c.args.sink.now) (g.K.Sink.told c.solve_bytes.new.sink) (g.K.Sink.faults c.args.sink.now) (g.K.Sink.faults c.solve_bytes.new.sink)) c.solve_bytes.result.cause cause c.solve_bytes.ensures.ended due
+returns-clause-due g c e due =
+    ends_yield (IsBytesAnswer IsSolved c.args.bytes.now) _ e c.solve_bytes.result
+    (λ text h. bytes_due_once IsSolved IsSolveDue solving c.args.bytes.now c.solve_bytes.result e (bytes_is_due IsSolved IsSolveDue solving c.args.bytes.now c.solve_bytes.result text h) due) c.solve_bytes.ensures

@@ -8,17 +8,17 @@ use Rattle.symmetric_matrix.specs.Symmetric.{entry}
 use Rattle.matrix_text.specs.RationalMatrix.{rational_entry}
 use Rattle.cpfactor_top.specs.declared.ended.Cause.TheVariants.{Fine, NotYet}
 use Rattle.cpfactor_top.specs.declared.ended.Lacking.TheVariants.{Outside}
+use Rattle.cpfactor_top.specs.Ending.{ending}
 use Rattle.cpfactor_top.specs.Texts.{factorization_text, outside_text}
-use Rattle.cpfactor_top.specs.Endings.{outlet}
 use Rattle.cpfactor_top.specs.StartCone.{start_terms, IsStartFactorization, LiesInStartCone, LiesOutside}
-use Rattle.cpfactor_top.specs.Answers.{IsMatrixAnswer, IsVerdict}
+use Rattle.cpfactor_top.specs.Solving.{IsSolved, IsVerdict}
 use Rattle.cpfactor_top.proofs.Endings.{ends_by_only}
 use Rattle.cpfactor_top.proofs.StartTerms.{start_factorization, start_cone, start_outside}
 use Rattle.cpfactor_top.proofs.ClearedEntries.{cleared_entry, is_weighable}
 use Rattle.cpfactor_top.proofs.solving.solve_weighed.Goals as goal
 
-pub returns-in-Ok-Some-clause-ended : goal.returns-in-Ok-Some-clause-ended
-returns-in-Ok-Some-clause-ended g c =
+pub returns-in-Ok-Some : goal.returns-in-Ok-Some
+returns-in-Ok-Some g c =
     let found = rw c.in-Ok-Some.field-0-is at c.in-Ok-Some.ensures in
     let made : c.in-Ok-Some.terms ≡ positive_terms (start_terms c.args.s.now (nat_abs c.args.d) (start_runs c.args.s.now.size)) =
     found.0 ∙ ap (λ (z : ℤ). positive_terms (start_terms c.args.s.now (nat_abs z) (start_runs c.args.s.now.size))) (to_z-of_z w128 c.args.d c.ranges.d) in
@@ -34,16 +34,16 @@ returns-in-Ok-Some-clause-ended g c =
       factorization = factored;
       written = ap (λ (n : ℕ). factorization_text n c.in-Ok-Some.terms) c.n.ensures.value;
     } in
-    ends_by_only (IsMatrixAnswer c.args.a.now) Fine (factorization_text c.n.result c.in-Ok-Some.terms)
-    (outlet (g.K.Sink.told c.args.sink.now) (g.K.Sink.told c.put_factorization.new.sink) (g.K.Sink.faults c.args.sink.now) (g.K.Sink.faults c.put_factorization.new.sink))
-    c.put_factorization.result.cause (record { due = (is_weighable c.args.a.now c.args.s.now c.args.d c.requires.clearable c.requires.weighable, inside); text_of = verdict }) c.put_factorization.ensures.ended
+    ends_by_only (IsSolved c.args.a.now) (ending Fine) (factorization_text c.n.result c.in-Ok-Some.terms)
+    _
+    c.put_factorization.result (record { due = (refl, (is_weighable c.args.a.now c.args.s.now c.args.d c.requires.clearable c.requires.weighable, inside)); text_of = verdict }) c.put_factorization.ensures
 
-pub returns-in-Ok-None-clause-ended : goal.returns-in-Ok-None-clause-ended
-returns-in-Ok-None-clause-ended g c =
+pub returns-in-Ok-None : goal.returns-in-Ok-None
+returns-in-Ok-None g c =
     let found = rw c.in-Ok-None.field-0-is at c.in-Ok-None.ensures in
     let is : (i j : ℕ) → i < c.args.s.now.size → j < c.args.s.now.size → rational_entry c.args.a.now i j ≡ ratio (entry c.args.s.now i j) (nat_abs c.args.d) = λ i j li lj. cleared_entry c.args.a.now c.args.s.now (nat_abs c.args.d) c.requires.cleared i j in
     let out : LiesOutside c.args.a.now.size (rational_entry c.args.a.now) =
     subst (λ (n : ℕ). LiesOutside n (rational_entry c.args.a.now)) c.requires.cleared.size (start_outside c.args.s.now (nat_abs c.args.d) c.requires.cleared.denominator.positive (rational_entry c.args.a.now) is found) in
-    ends_by_only (IsMatrixAnswer c.args.a.now) (NotYet Outside) outside_text
-    (outlet (g.K.Sink.told c.args.sink.now) (g.K.Sink.told c.refuse.new.sink) (g.K.Sink.faults c.args.sink.now) (g.K.Sink.faults c.refuse.new.sink))
-    c.refuse.result.cause (record { due = (is_weighable c.args.a.now c.args.s.now c.args.d c.requires.clearable c.requires.weighable, out); text_of = refl }) c.refuse.ensures.ended
+    ends_by_only (IsSolved c.args.a.now) (ending (NotYet Outside)) outside_text
+    _
+    c.refuse.result (record { due = (refl, (is_weighable c.args.a.now c.args.s.now c.args.d c.requires.clearable c.requires.weighable, out)); text_of = refl }) c.refuse.ensures

@@ -1,28 +1,49 @@
-use Rattle.std.proofs.Common.{◌∙◌, ◌≡◌, true, false, sym}
-use Rattle.std.proofs.lemmas.Bool.{not-false, not-true}
-use Rattle.std.specs.Prelude.{codes}
+use Rattle.std.proofs.Common.{◌≡◌, ◌∙◌, sym, refl, Some}
+use Rattle.std.specs.Prelude.{find}
 use Rattle.std.specs.Str.{bytes_eq}
 use Rattle.std.specs.String.{string_bytes}
-use Rattle.cpfactor_top.proofs.Solve.{no_words, other_name, solve_name}
+use Rattle.cpfactor_top.specs.Commands.{CommandRow, commands, solve, minimum, copositive}
+use Rattle.cpfactor_top.proofs.Readings.{reading_none, reading_as, reading_other, none_named}
 use Rattle.cpfactor_top.proofs.words.read_words.Goals as goal
 
 pub returns-in_default-clause-usage : goal.returns-in_default-clause-usage
-returns-in_default-clause-usage c = no_words c.args.words.now c.in_default.len_below
+returns-in_default-clause-usage c = reading_none c.args.words.now c.in_default.len_below
 
-pub returns-then-ne-clause-usage : goal.returns-then-ne-clause-usage
-returns-then-ne-clause-usage c =
-    let other : bytes_eq (string_bytes c.name-item.result) (codes "solve") ≡ false =
-    rw (← c.as_bytes.ensures.value, ← c.as_slice.ensures) (not-true _ (sym c.ne.ensures ∙ c.if-ne.true)) in
-    other_name c.args.words.now c.name-item.result c.name-item.is c.in-len1-up.len_at_least other
+pub returns-in-solve-clause-command : goal.returns-in-solve-clause-command
+returns-in-solve-clause-command c =
+    let found : find (λ (r : CommandRow). bytes_eq (string_bytes c.name-item.result) r.name) commands ≡ Some solve = rw (sym c.as_str.ensures.value ∙ c.in-solve.is) refl in
+    rw (reading_as c.args.words.now c.name-item.result (Some solve) c.name-item.is c.in-len1-up.len_at_least found) c.solve.ensures.command
 
-pub returns-clause-command : goal.returns-clause-command
-returns-clause-command c =
-    let named : bytes_eq (string_bytes c.name-item.result) (codes "solve") ≡ true =
-    rw (← c.as_bytes.ensures.value, ← c.as_slice.ensures) (not-false _ (sym c.ne.ensures ∙ c.if-ne.false)) in
-    rw (solve_name c.args.words.now c.name-item.result c.name-item.is c.in-len1-up.len_at_least named) c.solve.ensures.command
+pub returns-in-solve-clause-usage : goal.returns-in-solve-clause-usage
+returns-in-solve-clause-usage c =
+    let found : find (λ (r : CommandRow). bytes_eq (string_bytes c.name-item.result) r.name) commands ≡ Some solve = rw (sym c.as_str.ensures.value ∙ c.in-solve.is) refl in
+    rw (reading_as c.args.words.now c.name-item.result (Some solve) c.name-item.is c.in-len1-up.len_at_least found) c.solve.ensures.usage
 
-pub returns-clause-usage : goal.returns-clause-usage
-returns-clause-usage c =
-    let named : bytes_eq (string_bytes c.name-item.result) (codes "solve") ≡ true =
-    rw (← c.as_bytes.ensures.value, ← c.as_slice.ensures) (not-false _ (sym c.ne.ensures ∙ c.if-ne.false)) in
-    rw (solve_name c.args.words.now c.name-item.result c.name-item.is c.in-len1-up.len_at_least named) c.solve.ensures.usage
+pub returns-in-minimum-clause-command : goal.returns-in-minimum-clause-command
+returns-in-minimum-clause-command c =
+    let found : find (λ (r : CommandRow). bytes_eq (string_bytes c.name-item.result) r.name) commands ≡ Some minimum = rw (sym c.as_str.ensures.value ∙ c.in-minimum.is) refl in
+    rw (reading_as c.args.words.now c.name-item.result (Some minimum) c.name-item.is c.in-len1-up.len_at_least found) c.minimum.ensures.command
+
+pub returns-in-minimum-clause-usage : goal.returns-in-minimum-clause-usage
+returns-in-minimum-clause-usage c =
+    let found : find (λ (r : CommandRow). bytes_eq (string_bytes c.name-item.result) r.name) commands ≡ Some minimum = rw (sym c.as_str.ensures.value ∙ c.in-minimum.is) refl in
+    rw (reading_as c.args.words.now c.name-item.result (Some minimum) c.name-item.is c.in-len1-up.len_at_least found) c.minimum.ensures.usage
+
+pub returns-in-copositive-clause-command : goal.returns-in-copositive-clause-command
+returns-in-copositive-clause-command c =
+    let found : find (λ (r : CommandRow). bytes_eq (string_bytes c.name-item.result) r.name) commands ≡ Some copositive = rw (sym c.as_str.ensures.value ∙ c.in-copositive.is) refl in
+    rw (reading_as c.args.words.now c.name-item.result (Some copositive) c.name-item.is c.in-len1-up.len_at_least found) c.copositive.ensures.command
+
+pub returns-in-copositive-clause-usage : goal.returns-in-copositive-clause-usage
+returns-in-copositive-clause-usage c =
+    let found : find (λ (r : CommandRow). bytes_eq (string_bytes c.name-item.result) r.name) commands ≡ Some copositive = rw (sym c.as_str.ensures.value ∙ c.in-copositive.is) refl in
+    rw (reading_as c.args.words.now c.name-item.result (Some copositive) c.name-item.is c.in-len1-up.len_at_least found) c.copositive.ensures.usage
+
+pub returns-in_default-as_str-clause-usage : goal.returns-in_default-as_str-clause-usage
+returns-in_default-as_str-clause-usage c =
+    let same = c.as_str.ensures.value in
+    let none = none_named commands (string_bytes c.name-item.result) (
+      λ e. c.in_default-as_str.not-solve (same ∙ e),
+      (λ e. c.in_default-as_str.not-minimum (same ∙ e), (λ e. c.in_default-as_str.not-copositive (same ∙ e), tt)),
+    ) in
+    reading_other c.args.words.now c.name-item.result c.name-item.is c.in-len1-up.len_at_least none

@@ -1,0 +1,17 @@
+use Rattle.std.proofs.Common.{◌≡◌, ◌∙◌, ◌++◌, ap₂, subst, List, ℕ, length}
+use Rattle.std.specs.List.{flat_map}
+use Rattle.cpfactor_top.specs.Texts.{vector_line}
+use Rattle.cpfactor_top.specs.Endings.{IsPut, outlet}
+use Rattle.cpfactor_top.proofs.Listings.{count_line, vectors_lines}
+use Rattle.cpfactor_top.proofs.Fronts.{put_nothing}
+use Rattle.cpfactor_top.proofs.found.put_vectors.Goals as goal
+
+pub returns-in-Ok : goal.returns-in-Ok
+returns-in-Ok g c =
+    let head : c.push_line.new.into.items ≡ count_line (length c.args.vectors.now) =
+    c.in-Ok.ensures ∙ ap₂ (λ (t : List ℕ) (n : ℕ). t ++ count_line n) c.clear.ensures.items c.len.ensures.value in
+    subst (λ t. IsPut t (outlet (g.K.Sink.told c.args.sink.now) (g.K.Sink.told c.put_listed.new.sink) (g.K.Sink.faults c.args.sink.now) (g.K.Sink.faults c.put_listed.new.sink)) c.put_listed.result) (vectors_lines c.args.vectors.now c.push_line.new.into.items head) c.put_listed.ensures
+
+pub returns-in-Err : goal.returns-in-Err
+returns-in-Err g c =
+    put_nothing (count_line (length c.args.vectors.now) ++ flat_map vector_line c.args.vectors.now) (g.K.Sink.told c.args.sink.now) (g.K.Sink.faults c.args.sink.now) (g.K.Sink.faults c.args.sink.now)

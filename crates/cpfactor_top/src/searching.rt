@@ -1,0 +1,134 @@
+//! The commands `minimum` and `copositive`.
+
+ghost use Rattle.std.specs.Prelude.{◌≡◌, ◌≤◌, ◌≤ℤ◌, pos, length};
+ghost use Rattle.cpfactor_top.specs.declared.ended.Ended.{Ended as an_ending};
+ghost use Rattle.cpfactor_top.specs.Endings.{EndsBy, outlet};
+ghost use Rattle.cpfactor_top.specs.Ending.{HasStatus};
+ghost use Rattle.cpfactor_top.specs.Searching.{IsFound, IsSearched, IsSearchDue};
+ghost use Rattle.cpfactor_top.specs.Answers.{IsBytesAnswer, IsBytesDue, YieldsTo};
+
+use crate::ended::{Ended, Owed};
+use crate::found::{put_copositive, put_depth, put_low, put_minimum};
+use crate::given::{clear_or_refuse, read_or_refuse};
+use crate::refuse::{refuse_overflow, want_memory};
+use cp_outside::Sink;
+use matrix_text::RatMatrix;
+use search_core::{Least, Searcher, Sign};
+use serial_search::SerialSearcher;
+use std::alloc::Global;
+use symmetric_matrix::SymInt;
+use unimodular_cone::Mode;
+
+/// The whole of `minimum` (mode `Least`) or of `copositive` (mode `Sign`) after reading, with one worker: searches the matrix
+/// whose text the bytes are, at most 1,048,576 of them, to a depth of at most 200, and writes the answer to the sink.
+///
+/// The matrix A is S/d, d its least common denominator. The answer is that of the search of S, its values divided by d. It
+/// ends with `Fine` where the search found the copositive minimum or that S is copositive, and, with the status `Separated`,
+/// where it found a value that is too low; with `Depth` where the first open path has `depth` digits; with `Overflow` where
+/// the first operation of clearing, an entry of a cone, or the least diagonal entry doesn't fit; with `MatrixFault` where the
+/// bytes have that first fault; with `WriteFault` only where the sink failed; and with `Memory` where memory was wanting. It
+/// always returns.
+pub fn minimum_alone<K: Sink>(
+    alloc: Global,
+    bytes: &[u8],
+    mode: Mode,
+    depth: u8,
+    sink: &mut K,
+) -> Ended
+    requires bytes { length bytes.now ≤ 1048576 }
+    requires depth { depth ≤ 200 }
+    ensures status { HasStatus result }
+    // The ending is that of an answer, whose text is written; or a front of it, where the sink failed or memory was wanting.
+    ensures ended { EndsBy (IsBytesAnswer (IsSearched mode depth) bytes.now) (outlet (K.told sink.old) (K.told sink.new) (K.faults sink.old) (K.faults sink.new)) result }
+    // Each ending comes where it is due.
+    ensures due { (e : an_ending) → IsBytesDue (IsSearchDue mode depth) bytes.now e → YieldsTo e result }
+{
+    search_bytes(alloc, bytes, mode, depth, sink)
+}
+
+/// Reads a matrix text and searches its matrix.
+fn search_bytes<K: Sink>(alloc: Global, bytes: &[u8], mode: Mode, depth: u8, sink: &mut K) -> Ended
+    requires bytes { length bytes.now ≤ 1048576 }
+    requires depth { depth ≤ 200 }
+    ensures { EndsBy (IsBytesAnswer (IsSearched mode depth) bytes.now) (outlet (K.told sink.old) (K.told sink.new) (K.faults sink.old) (K.faults sink.new)) result }
+{
+    match read_or_refuse(alloc, bytes, sink) {
+        Ok(a) => search_matrix(alloc, &a, mode, depth, sink),
+        Err(ended) => ended,
+    }
+}
+
+/// Searches a matrix.
+fn search_matrix<K: Sink>(
+    alloc: Global,
+    a: &RatMatrix,
+    mode: Mode,
+    depth: u8,
+    sink: &mut K,
+) -> Ended
+    requires { depth ≤ 200 }
+    ensures { EndsBy (IsSearched mode depth a.now) (outlet (K.told sink.old) (K.told sink.new) (K.faults sink.old) (K.faults sink.new)) result }
+{
+    match clear_or_refuse(alloc, a, sink) {
+        Ok((s, d)) => search_whole(alloc, &s, d, mode, depth, sink),
+        Err(ended) => ended,
+    }
+}
+
+/// Searches a whole matrix S; its values are told over d.
+fn search_whole<K: Sink>(
+    alloc: Global,
+    s: &SymInt,
+    d: i128,
+    mode: Mode,
+    depth: u8,
+    sink: &mut K,
+) -> Ended
+    requires depth { depth ≤ 200 }
+    requires positive { pos 1 ≤ℤ d }
+    ensures { EndsBy (IsFound mode depth s.now d) (outlet (K.told sink.old) (K.told sink.new) (K.faults sink.old) (K.faults sink.new)) result }
+{
+    match mode {
+        Mode::Least => search_least(alloc, s, d, depth, sink),
+        Mode::Sign => search_sign(alloc, s, d, depth, sink),
+    }
+}
+
+/// Searches S for its least value at nonzero vectors.
+fn search_least<K: Sink>(alloc: Global, s: &SymInt, d: i128, depth: u8, sink: &mut K) -> Ended
+    requires depth { depth ≤ 200 }
+    requires positive { pos 1 ≤ℤ d }
+    ensures { EndsBy (IsFound Mode.Least depth s.now d) (outlet (K.told sink.old) (K.told sink.new) (K.faults sink.old) (K.faults sink.new)) result }
+{
+    match SerialSearcher::new(alloc).least(s, depth) {
+        Least::Found { minimum, vectors } => put_minimum(alloc, sink, minimum, d, &vectors),
+        Least::Low {
+            vector,
+            value,
+            path,
+        } => put_low(alloc, sink, &vector, value, d, path),
+        Least::Depth { path } => put_depth(alloc, sink, path),
+        Least::Wide { at } => refuse_overflow(alloc, sink, Owed::Gram { at }),
+        Least::BoundWide { diagonal } => { refuse_overflow(alloc, sink, Owed::Bound { diagonal }) }
+        Least::OutOfMemory => want_memory(sink),
+    }
+}
+
+/// Searches S for a value below 0.
+fn search_sign<K: Sink>(alloc: Global, s: &SymInt, d: i128, depth: u8, sink: &mut K) -> Ended
+    requires depth { depth ≤ 200 }
+    requires positive { pos 1 ≤ℤ d }
+    ensures { EndsBy (IsFound Mode.Sign depth s.now d) (outlet (K.told sink.old) (K.told sink.new) (K.faults sink.old) (K.faults sink.new)) result }
+{
+    match SerialSearcher::new(alloc).sign(s, depth) {
+        Sign::Copositive => put_copositive(alloc, sink, s.n()),
+        Sign::Low {
+            vector,
+            value,
+            path,
+        } => put_low(alloc, sink, &vector, value, d, path),
+        Sign::Depth { path } => put_depth(alloc, sink, path),
+        Sign::Wide { at } => refuse_overflow(alloc, sink, Owed::Gram { at }),
+        Sign::OutOfMemory => want_memory(sink),
+    }
+}

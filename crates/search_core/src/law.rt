@@ -1,0 +1,18 @@
+//! What holds of fates and codes. Each call does nothing: its contract is the law.
+
+ghost use Rattle.search_core.specs.Theorems.{AtMostOneFate, FateIsOfThePath, CodeIsOfThePath};
+
+/// A cone has at most one fate under a word, with a limit.
+pub fn at_most_one_fate()
+    ensures { AtMostOneFate }
+{}
+
+/// The fate that `judge` gives of a cone as it is shown is that of the cone at its path.
+pub fn fate_is_of_the_path()
+    ensures { FateIsOfThePath }
+{}
+
+/// The code that `code` gives of a cone as it is shown is that of the cone at its path.
+pub fn code_is_of_the_path()
+    ensures { CodeIsOfThePath }
+{}
