@@ -11,9 +11,9 @@ use Rattle.exact_forms.proofs.Rational.{ring_ℚ, div-mul}
 use Rattle.exact_forms.specs.Signs.{IsNonnegative}
 use Rattle.exact_forms.specs.Lexicographic.{IsLexBelow}
 use Rattle.exact_lp.specs.Program.{Program, IsProgram, IsEntering, IsCandidate, IsLeaving, IsState, ratios, IsNonnegativeProgram}
-use Rattle.exact_forms.proofs.Signs.{Sign, above, none, below, sign_of, positive_not_zero, positive_nonneg, nonneg_product, nonneg_zero, not_both, total_nonneg, negative_opposite}
+use Rattle.exact_forms.proofs.Signs.{Sign, above, none, below, sign_of, positive_not_zero, positive_nonneg, nonneg_product, nonneg_zero, not_both, total_nonneg, negative_opposite, negative_not_nonneg}
 use Rattle.exact_forms.proofs.Lexicographic.{LexSign, lex_above, lex_none, lex_below_zero, lex_sign, lex_same, lex_below, lex_difference, lex_add, lex_not_both}
-use Rattle.exact_forms.proofs.Coordinates.{mark_off, basis_mark, read_off, true_or_false}
+use Rattle.exact_forms.proofs.Coordinates.{mark_off, basis_mark, read_off, coordinates_same, true_or_false}
 use Rattle.exact_lp.proofs.Outcome.{order_suc}
 
 -- ---- of two different lists one is below the other
@@ -151,8 +151,9 @@ module _ (P : Program) (B : ℕ → Bool) (coord start : ℕ → ℕ → Rationa
           → (k : ℕ) × (k < P.columns.count) × (IsCandidate P B coord e k)
       by (inl f) = f
       by (inr h) =
-          let nz = N.nonzero e E.low E.high in
-          absurd (nz.4 (zero_both (P.columns.entry e nz.0 nz.1) (N.vectors e nz.0 nz.1 nz.2 nz.3 E.low E.high) (below_zero h nz.0 nz.1 nz.2 nz.3) (sign_of (P.columns.entry e nz.0 nz.1))))
+          absurd (negative_not_nonneg (coord e P.top) E.negative (nonneg_zero _ (H.basis.free.only_zero (coord e)
+          (coordinates_same P.columns B (coord e) (P.columns.entry e) (λ a b. whole (pos 0))
+          (λ a b la lb. zero_both (P.columns.entry e a b) (N.vectors e a b la lb E.low E.high) (below_zero h a b la lb) (sign_of (P.columns.entry e a b))) (H.basis.written e le)) P.top R.top_within)))
 
   -- the best of the candidates below n
   best_below : (e : ℕ) → (n : ℕ) → n ≤ P.columns.count
@@ -209,11 +210,3 @@ module _ (P : Program) (B : ℕ → Bool) (coord start : ℕ → ℕ → Rationa
           nobody : (k : ℕ) → IsCandidate P B coord e k → ((k ≡ n) ⊎ (k < n)) → ⊥
           nobody k d (inl s) = not_candidate n (subst (λ (k : ℕ). IsCandidate P B coord e k) s d) o
           nobody k d (inr l) = h k l d
-
-  pub has_leaving : (e : ℕ) → IsNonnegativeProgram P → IsEntering P coord e → (l : ℕ) × (IsLeaving P B coord e l)
-  has_leaving e N E = by (best_below e P.columns.count (omega arith)) (has_candidate e N E)
-    where
-      by : (((l : ℕ) × (IsCandidate P B coord e l) × ((k : ℕ) → k < P.columns.count → IsCandidate P B coord e k → k ≢ l → IsLexBelow (suc P.rank) (ratios P coord e l) (ratios P coord e k)))
-          ⊎ ((k : ℕ) → k < P.columns.count → IsCandidate P B coord e k → ⊥)) → ((k : ℕ) × (k < P.columns.count) × (IsCandidate P B coord e k)) → (l : ℕ) × (IsLeaving P B coord e l)
-      by (inl b) c = (b.0, record { candidate = b.1; least = λ k d ne. b.2 k d.within d ne })
-      by (inr h) c = absurd (h c.0 c.1 c.2)

@@ -5,15 +5,14 @@ use Rattle.exact_forms.proofs.RationalSums.{sum_ℚ_same, sum_ℚ_none, sum_ℚ-
 use Rattle.commutative_ring.proofs.Ring.{num, ◌⊕◌, ◌⊗◌, neg, v0, v1, v2, v3, v4}
 use Rattle.exact_forms.specs.Rational.{Rational, whole, neg_ℚ, ◌+ℚ◌, ◌*ℚ◌}
 use Rattle.exact_forms.specs.Sums.{sum_ℚ}
-use Rattle.exact_forms.proofs.Rational.{zero_mul_ℚ}
 use Rattle.exact_forms.proofs.Slacks.{replaced_here, replaced_other, same_or_not}
 use Rattle.exact_forms.proofs.Rational.{ring_ℚ}
 use Rattle.exact_forms.specs.Signs.{IsNonnegative}
 use Rattle.exact_forms.specs.Coordinates.{IsBasis, mark}
-use Rattle.exact_lp.specs.Program.{Program, order, IsProgram, IsInside, IsOutside, IsState, weight, IsFactored}
-use Rattle.exact_forms.proofs.Signs.{nonneg_add, nonneg_product, nonneg_zero, zero_nonneg, not_both, total_nonneg, negative_opposite}
+use Rattle.exact_lp.specs.Program.{Program, order, IsProgram, IsInside, IsState, weight, IsFactored}
+use Rattle.exact_forms.proofs.Signs.{nonneg_add, nonneg_zero, zero_nonneg}
 use Rattle.exact_forms.proofs.Lexicographic.{lex_head}
-use Rattle.exact_forms.proofs.Coordinates.{mul_zero_ℚ, sum_marked, mark_off, read_off, coordinates_unique, true_or_false}
+use Rattle.exact_forms.proofs.Coordinates.{mul_zero_ℚ, sum_marked, mark_off, coordinates_unique, true_or_false}
 
 order_zero : (P : Program) → order P zero ≡ P.target
 unfolding order
@@ -53,7 +52,7 @@ module _ (P : Program) (start : ℕ → ℕ → Rational) (R : IsProgram P start
   times_other : (k : ℕ) → P.chosen k ≡ false → times_first P k ≡ whole (pos 0)
   times_other k c = sum_ℚ_none P.rank _ (λ j lj. mark_off P.columns (P.first j) k (λ (s : k ≡ P.first j). absurd (let t = R.first_is_chosen j lj in let u : P.chosen k ≡ P.chosen (P.first j) = ap P.chosen s in cc)))
 
-  sum_over_first : (f : ℕ → Rational) → sum_ℚ P.columns.count (λ k. times_first P k *ℚ f k) ≡ sum_ℚ P.rank (λ j. f (P.first j))
+  pub sum_over_first : (f : ℕ → Rational) → sum_ℚ P.columns.count (λ k. times_first P k *ℚ f k) ≡ sum_ℚ P.rank (λ j. f (P.first j))
   sum_over_first f =
       sum_ℚ_same P.columns.count _ _ (λ k l.
       ring_ℚ (times_first P k ∷ f k ∷ []) (v0 ⊗ v1) (v1 ⊗ v0) refl
@@ -81,21 +80,6 @@ module _ (P : Program) (start : ℕ → ℕ → Rational) (R : IsProgram P start
           absurd (R.top_apart (P.first h.0) v.0 v.1 h.2)
 
   -- ---- Outside: no weights
-  pub outside_has_none : (B : ℕ → Bool) (coord : ℕ → ℕ → Rational) (w : ℕ → Rational) → IsBasis P.columns B coord → IsOutside P coord → P.target < P.columns.count → IsFactored P w → ⊥
-  outside_has_none B coord w h O lt W =
-      not_both (neg_ℚ (coord P.target P.top)) ((negative_opposite _).0 O.here)
-      (subst IsNonnegative
-      (sym (read_off P.columns B coord w (coord P.target) (P.columns.entry P.target) h (h.written P.target lt) W.sum P.top R.top_within)
-      ∙ ring_ℚ (coord P.target P.top ∷ []) v0 (neg (neg v0)) refl)
-      (total_nonneg P.columns.count (λ k. w k *ℚ coord k P.top) (λ k l. each k l (vector_or_not k))))
-    where
-      vector_or_not : (k : ℕ) → ((P.low ≤ k) × (k < P.high)) ⊎ ((k < P.low) ⊎ (P.high ≤ k))
-      vector_or_not k = grind arith
-
-      each : (k : ℕ) → k < P.columns.count → (((P.low ≤ k) × (k < P.high)) ⊎ ((k < P.low) ⊎ (P.high ≤ k))) → IsNonnegative (w k *ℚ coord k P.top)
-      each k l (inl v) = nonneg_product (w k) (coord k P.top) (W.nonnegative k l) (O.none k v.0 v.1)
-      each k l (inr n) = nonneg_zero _ (ap (λ x. x *ℚ coord k P.top) (W.vectors k l n) ∙ zero_mul_ℚ (coord k P.top))
-
   -- ---- Inside: the weights
   but_top : (coord : ℕ → ℕ → Rational) (k : ℕ) → cond (eqb k P.top) (whole (pos 0)) (coord P.target k) ≡ coord P.target k +ℚ neg_ℚ (coord P.target P.top) *ℚ mark P.top k
   but_top coord k = by (same_or_not k P.top)

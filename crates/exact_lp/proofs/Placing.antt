@@ -20,7 +20,7 @@ use Rattle.exact_lp.specs.declared.placed.PlaceOp.TheVariants.{Tableau}
 use Rattle.exact_lp.specs.declared.placed.Placed.{Placed}
 use Rattle.exact_lp.specs.declared.placed.Placed.TheVariants.{Inside, Outside, Pivots, Wide, OutOfMemory}
 use Rattle.exact_lp.specs.Rule.{target, top, or_zero, is_there, is_basic, first_columns, is_settled, least_row, is_inside, goes_down, entering, leaving_row, leaving_ops, is_candidate, better, AreColumns}
-use Rattle.exact_lp.specs.Placement.{Problem, place_is_owed, first_owed_in, first_table, firsts, leaving, stepped, step_ops, exchange_of, opened, opened_ops, table_after, is_settled_first, IsLeft, IsSteppedOption, steps_of, is_last, IsStepDue, weight_ops, weights, last_table, zeros_of, outside_vector, opening_ops, closing_ops, leg_ops, legs, IsRun, IsInsideAfter, IsOutsideAfter, IsOwedAfter, IsPlaced, IsWeighed, IsOutsideAnswer}
+use Rattle.exact_lp.specs.Placement.{Problem, place_is_owed, first_owed_in, first_table, firsts, leaving, stepped, step_ops, exchange_of, opened, opened_ops, table_after, is_settled_first, IsLeft, IsStepped, steps_of, is_last, IsStepDue, HasLeavingRows, weight_ops, weights, last_table, zeros_of, outside_vector, opening_ops, closing_ops, leg_ops, legs, IsRun, IsInsideAfter, IsOutsideAfter, IsOwedAfter, IsPlaced, IsWeighed, IsOutsideAnswer}
 use Rattle.exact_lp.proofs.Choices.{IsCandidateRow, better_found}
 use Rattle.exact_lp.proofs.Weighing.{err_first, ok_first}
 
@@ -232,6 +232,20 @@ module _ (p : Problem) (budget : ℕ) (t : Table) (cs rs : List ℕ) (steps : Li
   pub at_pivots : (e : ℕ) → is_inside t p.vectors ≡ false → entering t p.vectors ≡ Some e → length steps ≡ budget → IsPlaced p budget (Pivots steps)
   at_pivots e h k b = (A.run, record { used = b; due = due e h k; owes = A.opening })
 
+  pub at_row : (e : ℕ) (xs : List ℕ) → HasLeavingRows p → is_inside t p.vectors ≡ false → entering t p.vectors ≡ Some e → xs ≡ cs → leaving t p.vectors xs e ≢ None
+  at_row e xs H h k f n =
+      H.row (length steps) (λ j l. due_upto j (latest j (length steps) l))
+      (ap (λ (o : Option ℕ). leaving (table_after p (length steps)) p.vectors (firsts p) (or_zero o)) (entering_is (Some e) k)
+      ∙ sym (ap (λ (xs : List ℕ). leaving t p.vectors xs e) f ∙ ap₂ (λ (t : Table) (cs : List ℕ). leaving t p.vectors cs e) A.table A.firsts_are)
+      ∙ n)
+    where
+      latest : (j n : ℕ) → j ≤ n → (j ≡ n) ⊎ (j < n)
+      latest j n l = grind arith
+
+      due_upto : (j : ℕ) → ((j ≡ length steps) ⊎ (j < length steps)) → IsStepDue p j
+      due_upto j (inl i) = subst (λ (j : ℕ). IsStepDue p j) (sym i) (due e h k)
+      due_upto j (inr l) = A.run.due j l
+
   step_list : (e : ℕ) → is_inside t p.vectors ≡ false → entering t p.vectors ≡ Some e → first_owed_in (leg_ops p (length steps)) ≡ first_owed_in (map Tableau (step_ops t p.vectors cs e))
   step_list e h k =
       leg_then p (length steps) _ A.opening (closing_step p (length steps) (Some e) (last_is false h) (entering_is (Some e) k))
@@ -328,6 +342,11 @@ step_row t m e cs rs r h f =
     let k = ok_first entry_is_owed (leaving_ops t m e rs None 0 (rows_of t)) (leaving_row t m e rs None 0 (rows_of t)) (Some r) f in
     (ap (λ (rs : List ℕ). first_owed entry_is_owed (leaving_ops t m e rs None 0 (rows_of t))) (sym h) ∙ k.0, sym (leaving_with t m e cs rs h) ∙ k.1, leaving_found t m e rs None 0 (rows_of t) r tt k.1 (omega arith))
 
+pub step_has_row : (t : Table) (m e : ℕ) (cs rs : List ℕ) → leaving t m cs e ≢ None → rs ≡ target t m ∷ cs
+    → answer entry_is_owed (leaving_ops t m e rs None 0 (rows_of t)) (leaving_row t m e rs None 0 (rows_of t)) ≡ Ok None → ⊥
+step_has_row t m e cs rs s h f =
+    s (sym (leaving_with t m e cs rs h) ∙ (ok_first entry_is_owed (leaving_ops t m e rs None 0 (rows_of t)) (leaving_row t m e rs None 0 (rows_of t)) None f).1)
+
 stepped_is : (t : Table) (m e : ℕ) (cs : List ℕ) (r : ℕ) → leaving t m cs e ≡ Some r → (stepped t m cs e ≡ exchanged t r e) × (exchange_of t m cs e ≡ record { entering = e - rows_of t; leaving = basic_at t r - rows_of t })
 unfolding stepped exchange_of
 stepped_is t m e cs r h = (
@@ -335,13 +354,12 @@ stepped_is t m e cs r h = (
   ap (λ (o : Option ℕ). (let x : Exchange = record { entering = e - rows_of t; leaving = basic_at t (or_zero o) - rows_of t } in x)) h,
 )
 
-pub step_left : (t new : Table) (m e : ℕ) (cs : List ℕ) (r : ℕ) (answered : Result (Option Exchange) EntryOp) → first_owed entry_is_owed (leaving_ops t m e (target t m ∷ cs) None 0 (rows_of t)) ≡ None → leaving t m cs e ≡ Some r
-    → IsLeft t r e new answered → IsSteppedOption t m cs e new answered
+pub step_left : (t new : Table) (m e : ℕ) (cs : List ℕ) (r : ℕ) (answered : Result Exchange EntryOp) → first_owed entry_is_owed (leaving_ops t m e (target t m ∷ cs) None 0 (rows_of t)) ≡ None → leaving t m cs e ≡ Some r
+    → IsLeft t r e new answered → IsStepped t m cs e new answered
 step_left t new m e cs r (Err op) n h L =
     ap (λ (ops : List EntryOp). first_owed entry_is_owed ops) (step_ops_is t m e cs (Some r) h)
     ∙ first_owed-append_none entry_is_owed (leaving_ops t m e (target t m ∷ cs) None 0 (rows_of t)) (exchange_ops t r e) n ∙ L
-step_left t new m e cs r (Ok None) n h L = tt
-step_left t new m e cs r (Ok (Some made)) n h L =
+step_left t new m e cs r (Ok made) n h L =
     let s = stepped_is t m e cs r h in (
       ap (λ (ops : List EntryOp). first_owed entry_is_owed ops) (step_ops_is t m e cs (Some r) h)
           ∙ first_owed-append_none entry_is_owed (leaving_ops t m e (target t m ∷ cs) None 0 (rows_of t)) (exchange_ops t r e) n ∙ L.0,
@@ -444,12 +462,12 @@ pub entering_within : (t : Table) (m e : ℕ) → entering t m ≡ Some e → e 
 unfolding entering
 entering_within t m e h = (first_found (goes_down t m) (rows_of t) m e h).below
 
-pub stepped_facts : (t new : Table) (m e : ℕ) (xs cs : List ℕ) (r : Result (Option Exchange) EntryOp) (x : Exchange) → xs ≡ cs → r ≡ Ok (Some x) → IsSteppedOption t m xs e new r
+pub stepped_facts : (t new : Table) (m e : ℕ) (xs cs : List ℕ) (r : Result Exchange EntryOp) (x : Exchange) → xs ≡ cs → r ≡ Ok x → IsStepped t m xs e new r
     → (first_owed entry_is_owed (step_ops t m cs e) ≡ None) × (x ≡ exchange_of t m cs e) × (new ≡ stepped t m cs e)
 stepped_facts t new m e xs cs r x h k S =
-    let s = subst (λ (cs : List ℕ). IsSteppedOption t m cs e new (Ok (Some x))) h (subst (λ (r : Result (Option Exchange) EntryOp). IsSteppedOption t m xs e new r) k S) in
+    let s = subst (λ (cs : List ℕ). IsStepped t m cs e new (Ok x)) h (subst (λ (r : Result Exchange EntryOp). IsStepped t m xs e new r) k S) in
     (s.0, s.1.0, s.1.1)
 
-pub step_owed : (t new : Table) (m e : ℕ) (xs cs : List ℕ) (r : Result (Option Exchange) EntryOp) (op : EntryOp) → xs ≡ cs → r ≡ Err op → IsSteppedOption t m xs e new r
+pub step_owed : (t new : Table) (m e : ℕ) (xs cs : List ℕ) (r : Result Exchange EntryOp) (op : EntryOp) → xs ≡ cs → r ≡ Err op → IsStepped t m xs e new r
     → first_owed entry_is_owed (step_ops t m cs e) ≡ Some op
-step_owed t new m e xs cs r op h k S = subst (λ (cs : List ℕ). IsSteppedOption t m cs e new (Err op)) h (subst (λ (r : Result (Option Exchange) EntryOp). IsSteppedOption t m xs e new r) k S)
+step_owed t new m e xs cs r op h k S = subst (λ (cs : List ℕ). IsStepped t m cs e new (Err op)) h (subst (λ (r : Result Exchange EntryOp). IsStepped t m xs e new r) k S)

@@ -1,5 +1,5 @@
 -- The answer Outside is right.
-use Rattle.std.specs.Prelude.{◌≡◌, ◌≢◌, ℕ, zero, suc, ◌+◌, ◌-◌, ◌*◌, ◌<◌, ◌≤◌, ℤ, pos, negsuc, ◌≤ℤ◌, ◌<ℤ◌, ◌*ℤ◌, Bool, true, false, not, ◌||◌, List, [], ◌∷◌, ◌++◌, length, slice_index_or, Option, Some, None, if◌then◌else◌, nat_eq}
+use Rattle.std.specs.Prelude.{◌≡◌, ◌≢◌, ℕ, ◌+◌, ◌*◌, ◌<◌, ℤ, pos, negsuc, ◌≤ℤ◌, ◌<ℤ◌, ◌*ℤ◌, Bool, true, false, not, ◌||◌, List, [], ◌∷◌, ◌++◌, length, slice_index_or, None, if◌then◌else◌, nat_eq}
 use Rattle.std.proofs.Common.{arith, sym, ◌∙◌, ap, refl, subst, length-append}
 use Rattle.std.proofs.lemmas.Int.{ints}
 use Rattle.commutative_ring.proofs.Ring.{◌⊗◌, v0, v1, v2}
@@ -18,19 +18,15 @@ use Rattle.symmetric_matrix.specs.Symmetric.{Symmetric, entry}
 use Rattle.exact_linear.specs.Tables.{Table, IsRectangle, rows_of, table_entry, basic_at}
 use Rattle.exact_linear.specs.Columns.{start_cell, width_of, columns_of, start_table, with_sum_of, HasCoordinates}
 use Rattle.exact_linear.proofs.Fill.{length-cells}
-use Rattle.exact_linear.proofs.BringIn.{first_shape}
 use Rattle.exact_linear.proofs.Places.{first_none}
-use Rattle.exact_linear.proofs.StartTable.{start_coordinates, start_rows, start_basic}
-use Rattle.exact_lp.specs.declared.placed.Placed.{Placed}
-use Rattle.exact_lp.specs.declared.placed.Placed.TheVariants.{Inside, Outside, Pivots, Wide, OutOfMemory}
-use Rattle.exact_lp.specs.Rule.{target, top, is_negative, is_there, or_zero, top_row, is_lower, least_row, is_inside, goes_down, entering}
-use Rattle.exact_lp.specs.Placement.{Problem, first_table, firsts, table_after, is_settled_first, is_last, IsStepDue, IsPlaced}
+use Rattle.exact_linear.proofs.StartTable.{start_rows, start_basic}
+use Rattle.exact_lp.specs.Rule.{target, top, is_negative, top_row, is_inside, goes_down, entering}
+use Rattle.exact_lp.specs.Placement.{Problem, first_table, table_after, is_settled_first, is_last}
 use Rattle.exact_lp.specs.Squares.{squares, problem_of}
-use Rattle.exact_lp.specs.Weights.{AreWeights, IsSound}
-use Rattle.exact_lp.proofs.Placing.{last_free, entering_within}
-use Rattle.exact_lp.proofs.SquareLists.{start_is, length-squares}
+use Rattle.exact_lp.specs.Weights.{AreWeights}
+use Rattle.exact_lp.proofs.SquareLists.{length-squares}
 use Rattle.exact_lp.proofs.SquareColumns.{vector_column, target_column}
-use Rattle.exact_lp.proofs.Meaning.{IsGood, good_first, IsReady, opened_ready, stepped_ready, top_row_is}
+use Rattle.exact_lp.proofs.Meaning.{IsReady, top_row_is}
 
 -- ---- signs
 pub negative_fact : (x : Rational) → is_negative x ≡ true → IsNegative x
@@ -86,16 +82,7 @@ no_weights A t m w R h e nn sums =
     at_top j l = let r = top_row_is A t m R in H.shown.entry (top_row t m) j r.0 l ∙ ap (H.coord j) r.1
 
 -- ---- the tables
-least_within : (t : Table) (m best i n : ℕ) → best < rows_of t → i + n ≤ rows_of t → least_row t m best i n < rows_of t
-unfolding least_row
-least_within t m best i zero b l = b
-least_within t m best i (suc n) b l = by (is_lower t m best i) (λ k h. least_within t m k (i + 1) n h (omega arith))
-  where
-    by : (x : Bool) → ((k : ℕ) → k < rows_of t → least_row t m k (i + 1) n < rows_of t) → least_row t m (if x then i else best) (i + 1) n < rows_of t
-    by true rec = rec i (omega arith)
-    by false rec = rec best b
-
-start_rectangle : (n : ℕ) (given : List Symmetric) → IsRectangle (start_table n given)
+pub start_rectangle : (n : ℕ) (given : List Symmetric) → IsRectangle (start_table n given)
 start_rectangle n given = record {
   cells = length-cells (triangle n) (width_of n given) (start_cell (triangle n) given) ∙ ap (λ (r : ℕ). r * width_of n given) (sym (start_rows n given));
   positive = omega arith;
@@ -106,39 +93,35 @@ start_rectangle n given = record {
 abbrev pub all_columns : List (List ℕ) → Symmetric → ℤ → Columns
 all_columns vectors s d = with_sum_of (columns_of s.size (squares vectors ++ s ∷ [])) (first_table (problem_of vectors s d))
 
-pub ready_after : (vectors : List (List ℕ)) (s : Symmetric) (d : ℤ) (k : ℕ) → 1 ≤ s.size → ((j : ℕ) → j < k → IsStepDue (problem_of vectors s d) j)
-    → IsReady (all_columns vectors s d) (table_after (problem_of vectors s d) k) (length vectors)
-unfolding table_after
-ready_after vectors s d zero h due =
-    let p : Problem = problem_of vectors s d in
-    let S = start_is vectors s p.start h refl in
-    let G : IsGood (columns_of s.size (squares vectors ++ s ∷ [])) p.start = record { coordinates = start_coordinates s.size (squares vectors ++ s ∷ []); rectangle = start_rectangle s.size (squares vectors ++ s ∷ []) } in
-    let shape = first_shape p.start (length vectors) in
-    let w = S.width in
-    let r = S.row in
-    let x = shape.0 in
-    let y = shape.1 in
-    opened_ready (columns_of s.size (squares vectors ++ s ∷ [])) (first_table p) (length vectors) (good_first (columns_of s.size (squares vectors ++ s ∷ [])) p.start (length vectors) G (omega arith))
-    (last_free p.start (first_table p) (length vectors) refl S.units S.width) (omega arith) (omega arith) (least_within (first_table p) (length vectors) 0 1 (rows_of (first_table p) - 1) (omega arith) (omega arith))
-ready_after vectors s d (suc k) h due =
-    let p : Problem = problem_of vectors s d in
-    let R = ready_after vectors s d k h (λ j l. due j (omega arith)) in
-    let e = some_entering (entering (table_after p k) (length vectors)) (due k (omega arith)).vector in
-    stepped_ready (all_columns vectors s d) (table_after p k) (length vectors) (firsts p) (or_zero (entering (table_after p k) (length vectors))) R
-    (subst (λ (c : ℕ). c < rows_of (table_after p k) + length vectors) (sym (ap or_zero e.1)) (entering_within (table_after p k) (length vectors) e.0 e.1))
-  where
-    some_entering : (o : Option ℕ) → is_there o ≡ true → (e : ℕ) × (o ≡ Some e)
-    some_entering None h = absurd cc
-    some_entering (Some e) h = (e, refl)
-
 -- ---- the answer
-other_column : (A : Columns) (t : Table) (j a b : ℕ) → j + 1 ≢ A.count → (with_sum_of A t).entry j a b ≡ A.entry j a b
+pub other_column : (A : Columns) (t : Table) (j a b : ℕ) → j + 1 ≢ A.count → (with_sum_of A t).entry j a b ≡ A.entry j a b
 other_column A t j a b n = ap (λ (x : Bool). if x then sum_ℚ (rows_of t) (λ i. A.entry (basic_at t i) a b) else A.entry j a b) (not_equal (j + 1) A.count n)
   where
     not_equal : (j n : ℕ) → j ≢ n → nat_eq j n ≡ false
     not_equal j n h = grind arith
 
-not_inside : (p : Problem) (k : ℕ) → is_last p k ≡ false → is_inside (table_after p k) p.vectors ≡ false
+abbrev pub start_columns : List (List ℕ) → Symmetric → Columns
+start_columns vectors s = columns_of s.size (squares vectors ++ s ∷ [])
+
+-- how many columns there are before the vectors'
+abbrev pub low_of : Symmetric → ℕ
+low_of s = triangle s.size
+
+pub count_is : (vectors : List (List ℕ)) (s : Symmetric) → (start_columns vectors s).count ≡ low_of s + length vectors + 2
+count_is vectors s = let a = length-append (squares vectors) (s ∷ []) in let b = length-squares vectors in omega arith
+
+pub vector_entry_is : (vectors : List (List ℕ)) (s : Symmetric) (d : ℤ) (j a b : ℕ) → j < length vectors → length (slice_index_or vectors j []) ≡ s.size → a < s.size → b < s.size
+    → (all_columns vectors s d).entry (low_of s + j) a b ≡ whole (coordinate (slice_index_or vectors j []) a *ℤ coordinate (slice_index_or vectors j []) b)
+vector_entry_is vectors s d j a b lj size la lb =
+    other_column (start_columns vectors s) (first_table (problem_of vectors s d)) (low_of s + j) a b (let c = count_is vectors s in omega arith)
+    ∙ vector_column s.size vectors s j a b lj size la lb
+
+pub target_entry_is : (vectors : List (List ℕ)) (s : Symmetric) (d : ℤ) (a b : ℕ) → (all_columns vectors s d).entry (low_of s + length vectors) a b ≡ whole (entry s a b)
+target_entry_is vectors s d a b =
+    other_column (start_columns vectors s) (first_table (problem_of vectors s d)) (low_of s + length vectors) a b (let c = count_is vectors s in omega arith)
+    ∙ target_column s.size vectors s a b
+
+pub not_inside : (p : Problem) (k : ℕ) → is_last p k ≡ false → is_inside (table_after p k) p.vectors ≡ false
 unfolding is_last
 not_inside p k h = by (is_settled_first p) (is_inside (table_after p k) p.vectors) h
   where
@@ -146,11 +129,10 @@ not_inside p k h = by (is_settled_first p) (is_inside (table_after p k) p.vector
     by true y h = absurd cc
     by false y h = h
 
-pub outside_right : (vectors : List (List ℕ)) (s : Symmetric) (d : ℤ) (k : ℕ) (c : ℕ → Rational) → 1 ≤ s.size → pos 1 ≤ℤ d → ((k : ℕ) → k < length vectors → length (slice_index_or vectors k []) ≡ s.size)
-    → ((j : ℕ) → j < k → IsStepDue (problem_of vectors s d) j) → is_last (problem_of vectors s d) k ≡ false → entering (table_after (problem_of vectors s d) k) (length vectors) ≡ None
-    → AreWeights s.size vectors s d c → ⊥
-outside_right vectors s d k c h hd sizes due last none W =
-    no_weights A t (length vectors) (λ j. whole d *ℚ c j) R (not_inside (problem_of vectors s d) k last) none
+pub outside_right : (vectors : List (List ℕ)) (s : Symmetric) (d : ℤ) (t : Table) (c : ℕ → Rational) → pos 1 ≤ℤ d → ((k : ℕ) → k < length vectors → length (slice_index_or vectors k []) ≡ s.size)
+    → IsReady (all_columns vectors s d) t (length vectors) → is_inside t (length vectors) ≡ false → entering t (length vectors) ≡ None → AreWeights s.size vectors s d c → ⊥
+outside_right vectors s d t c hd sizes R last none W =
+    no_weights A t (length vectors) (λ j. whole d *ℚ c j) R last none
     (λ j l. nonneg_product (whole d) (c j) (positive_nonneg (whole d) (whole_positive d hd)) (W.nonnegative j l))
     (λ a b la lb.
     sum_ℚ_same (length vectors) _ _ (λ j lj. ap (λ x. (whole d *ℚ c j) *ℚ x) (vector_entry j a b lj la lb)
@@ -159,36 +141,16 @@ outside_right vectors s d k c h hd sizes due last none W =
     ∙ ap (λ x. whole d *ℚ x) (sym (rank_one_sum_is vectors c a b) ∙ W.sum.sum a b la lb)
     ∙ ring_ℚ (whole d ∷ (whole (entry s a b) /ℚ whole d) ∷ []) (v0 ⊗ v1) (v1 ⊗ v0) refl
     ∙ div-mul (whole (entry s a b)) (whole d) (positive_not_zero (whole d) (whole_positive d hd))
-    ∙ sym (target_entry_is a b))
+    ∙ sym (target_entry a b))
   where
     A : Columns
     A = all_columns vectors s d
-
-    t : Table
-    t = table_after (problem_of vectors s d) k
-
-    R : IsReady A t (length vectors)
-    R = ready_after vectors s d k h due
 
     rows : rows_of t ≡ triangle s.size
     rows = let w = R.width in let x = R.good.coordinates.width in let a = length-append (squares vectors) (s ∷ []) in let b = length-squares vectors in omega arith
 
     vector_entry : (j a b : ℕ) → j < length vectors → a < s.size → b < s.size → A.entry (rows_of t + j) a b ≡ whole (coordinate (slice_index_or vectors j []) a *ℤ coordinate (slice_index_or vectors j []) b)
-    vector_entry j a b lj la lb =
-        ap (λ (r : ℕ). A.entry (r + j) a b) rows
-        ∙ other_column (columns_of s.size (squares vectors ++ s ∷ [])) (first_table (problem_of vectors s d)) (triangle s.size + j) a b (let a = length-append (squares vectors) (s ∷ []) in let b = length-squares vectors in omega arith)
-        ∙ vector_column s.size vectors s j a b lj (sizes j lj) la lb
+    vector_entry j a b lj la lb = ap (λ (r : ℕ). A.entry (r + j) a b) rows ∙ vector_entry_is vectors s d j a b lj (sizes j lj) la lb
 
-    target_entry_is : (a b : ℕ) → A.entry (target t (length vectors)) a b ≡ whole (entry s a b)
-    target_entry_is a b =
-        ap (λ (r : ℕ). A.entry (r + length vectors) a b) rows
-        ∙ other_column (columns_of s.size (squares vectors ++ s ∷ [])) (first_table (problem_of vectors s d)) (triangle s.size + length vectors) a b (let a = length-append (squares vectors) (s ∷ []) in let b = length-squares vectors in omega arith)
-        ∙ target_column s.size vectors s a b
-
-pub sound : (vectors : List (List ℕ)) (s : Symmetric) (d : ℤ) (budget : ℕ) (r : Placed) → 1 ≤ s.size → pos 1 ≤ℤ d → ((k : ℕ) → k < length vectors → length (slice_index_or vectors k []) ≡ s.size)
-    → IsPlaced (problem_of vectors s d) budget r → IsSound s.size vectors s d r
-sound vectors s d budget (Inside found steps) h hd sizes P = tt
-sound vectors s d budget (Outside zeros vector steps) h hd sizes P = λ c W. outside_right vectors s d (length steps) c h hd sizes P.0.due P.1.not_last P.1.none W
-sound vectors s d budget (Pivots steps) h hd sizes P = tt
-sound vectors s d budget (Wide op steps) h hd sizes P = tt
-sound vectors s d budget OutOfMemory h hd sizes P = tt
+    target_entry : (a b : ℕ) → A.entry (target t (length vectors)) a b ≡ whole (entry s a b)
+    target_entry a b = ap (λ (r : ℕ). A.entry (r + length vectors) a b) rows ∙ target_entry_is vectors s d a b

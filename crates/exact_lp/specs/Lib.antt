@@ -3,3 +3,7 @@ pub mod Rule
 pub mod Placement
 pub mod Squares
 pub mod Weights
+pub mod Simplex
+pub mod Separation
+pub mod Ruled
+pub mod Theorems

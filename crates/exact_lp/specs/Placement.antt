@@ -2,15 +2,17 @@
 --
 --     Problem              the table over the units, how many vectors there are, and the number that the weights are divided by
 --     first_table p        the table of the first basis; firsts p the columns of the first basis
---     ranks p              the target's column, then those of the first basis
---     table_after p k      the table after k steps
---     entering_at p k, leaving_at p k   the column and the row of the step from there
---     exchange_at p k      the step, by the two vectors' indices; steps_of p k the first k steps
+--     ranks t m firsts     the target's column, then those of the first basis
+--     leaving, stepped, step_ops, exchange_of   of the step of an entering column: its row, the table after it, its operations, and
+--                          the two vectors' indices
+--     opened t m, opened_ops t m   the table after t has come in, and the operations of that
+--     table_after p k, steps_of p k   the table after k steps, and these steps
 --     is_last p k          the target is written by nonnegative coordinates after k steps, or over the first basis already
 --     IsStepDue p k        neither is it so, nor is there no entering vector
---     weight_at p k v      the coefficient of vector v in the answer Inside, before it is divided
---     weights_of p k       the weights, in the order of the vectors
---     zeros_of p k, outside_vector p k   the basic vectors, and the first of the first basis whose entry in the row of t is positive
+--     HasLeavingRows p     at each step that is due a row can leave
+--     coefficient t m firsts v    the coefficient of vector v in the answer Inside, before it is divided
+--     weights t m firsts d n       the weights, in the order of the vectors
+--     zeros_of t m, outside_vector t m firsts   the basic vectors, and the first of the first basis whose entry in the row of t is positive
 --     opening_ops p k      the operations after step k, up to where it is known which of the three ends applies
 --     leg_ops p k          all operations after step k and before the next one, or to the end
 --     legs p k             those of the first k legs
@@ -18,7 +20,7 @@
 --     IsPlaced p budget a  a is the answer with at most so many steps
 --
 -- Rows, columns and vectors count from 0.
-use Rattle.std.specs.Prelude.{ℕ, zero, suc, ◌+◌, ◌-◌, ◌<◌, ◌≤◌, ◌≡◌, pos, Bool, true, false, ◌&&◌, ◌||◌, List, [], ◌∷◌, ◌++◌, map, length, Option, Some, None, Result, Ok, Err, if◌then◌else◌, nat_eq}
+use Rattle.std.specs.Prelude.{ℕ, zero, suc, ◌+◌, ◌-◌, ◌<◌, ◌≤◌, ◌≡◌, ◌≢◌, pos, Bool, true, false, ◌&&◌, ◌||◌, List, [], ◌∷◌, ◌++◌, map, length, Option, Some, None, Result, Ok, Err, if◌then◌else◌, nat_eq}
 use Rattle.std.specs.List.{range_with_len}
 use Rattle.exact_forms.specs.Rational.{Rational, whole, ◌+ℚ◌, ◌/ℚ◌}
 use Rattle.fraction128.specs.Recipes.{add_ops, div_ops}
@@ -74,17 +76,15 @@ unfoldable pub exchange_of : Table → ℕ → List ℕ → ℕ → Exchange
 exchange_of t m firsts e = record { entering = e - rows_of t; leaving = basic_at t (or_zero (leaving t m firsts e)) - rows_of t }
 
 -- what the exchange at row r and column c answers, told as a step, with the table after it
-abbrev pub IsLeft : Table → ℕ → ℕ → Table → Result (Option Exchange) EntryOp → Type 0
+abbrev pub IsLeft : Table → ℕ → ℕ → Table → Result Exchange EntryOp → Type 0
 IsLeft t r c new (Err op) = first_owed entry_is_owed (exchange_ops t r c) ≡ Some op
-IsLeft t r c new (Ok None) = ⊥
-IsLeft t r c new (Ok (Some made)) =
+IsLeft t r c new (Ok made) =
     (first_owed entry_is_owed (exchange_ops t r c) ≡ None) × ((made ≡ record { entering = c - rows_of t; leaving = basic_at t r - rows_of t }) × (new ≡ exchanged t r c))
 
 -- what a step from the table t answers, with the table after it
-abbrev pub IsSteppedOption : Table → ℕ → List ℕ → ℕ → Table → Result (Option Exchange) EntryOp → Type 0
-IsSteppedOption t m firsts e new (Err op) = first_owed entry_is_owed (step_ops t m firsts e) ≡ Some op
-IsSteppedOption t m firsts e new (Ok None) = Unit {0}
-IsSteppedOption t m firsts e new (Ok (Some made)) =
+abbrev pub IsStepped : Table → ℕ → List ℕ → ℕ → Table → Result Exchange EntryOp → Type 0
+IsStepped t m firsts e new (Err op) = first_owed entry_is_owed (step_ops t m firsts e) ≡ Some op
+IsStepped t m firsts e new (Ok made) =
     (first_owed entry_is_owed (step_ops t m firsts e) ≡ None) × ((made ≡ exchange_of t m firsts e) × (new ≡ stepped t m firsts e))
 
 -- ---- the tables
@@ -111,6 +111,9 @@ is_last p k = is_settled_first p || is_inside (table_after p k) p.vectors
 pub record IsStepDue (p : Problem) (k : ℕ) : Type 0 where
   pub not_last : is_last p k ≡ false
   pub vector : is_there (entering (table_after p k) p.vectors) ≡ true
+
+pub record HasLeavingRows (p : Problem) : Type 0 where
+  pub row : (k : ℕ) → ((j : ℕ) → j ≤ k → IsStepDue p j) → leaving (table_after p k) p.vectors (firsts p) (or_zero (entering (table_after p k) p.vectors)) ≢ None
 
 -- ---- the ends
 abbrev pub contains : List ℕ → ℕ → Bool

@@ -15,7 +15,7 @@
 --     IsLeaving P B coord e l   the candidate whose list of ratios is lexicographically least
 --     weight P coord k        the weight of column k in the answer Inside
 --     IsFactored P w          nonnegative weights of the vectors' columns that write the target
---     IsNonnegativeProgram P  the entries of the vectors' columns and of t are at least 0, and no vector's column is zero
+--     IsNonnegativeProgram P  the entries of the vectors' columns and of t are at least 0
 --
 -- The coordinates of column j over a basis are coord j; a basis is a test of columns. Columns count from 0.
 use Rattle.std.specs.Prelude.{ℕ, zero, suc, ◌≡◌, ◌≢◌, ◌<◌, ◌≤◌, pos, Bool, true, ◌⊎◌, cond, eqb}
@@ -100,8 +100,7 @@ pub record IsLeastPlace (P : Program) (coord : ℕ → ℕ → Rational) (i : �
   pub least : (j : ℕ) → j < P.rank → IsNonnegative (coord P.target (P.first j) +ℚ neg_ℚ (coord P.target (P.first i)))
   pub last : (j : ℕ) → i < j → j < P.rank → IsPositive (coord P.target (P.first j) +ℚ neg_ℚ (coord P.target (P.first i)))
 
--- the entries of the vectors' columns and of t are at least 0, and no vector's column is zero
+-- the entries of the vectors' columns and of t are at least 0
 pub record IsNonnegativeProgram (P : Program) : Type 0 where
   pub vectors : (k a b : ℕ) → a < P.columns.size → b < P.columns.size → P.low ≤ k → k < P.high → IsNonnegative (P.columns.entry k a b)
   pub top : (a b : ℕ) → a < P.columns.size → b < P.columns.size → IsNonnegative (P.columns.entry P.top a b)
-  pub nonzero : (k : ℕ) → P.low ≤ k → k < P.high → (a : ℕ) × (b : ℕ) × (a < P.columns.size) × (b < P.columns.size) × (P.columns.entry k a b ≢ whole (pos 0))

@@ -2,12 +2,14 @@
 #![tactic(auto)]
 
 mod ends;
+mod law;
 mod lists;
 mod placed;
 mod rule;
 mod simplex;
 mod squares;
 
+pub use law::{at_most_one_answer, leaving_is_unique, settled_at_once};
 pub use lists::{Exchanges, Indices, Weights};
 pub use placed::{Exchange, PlaceOp, Placed};
 pub use simplex::place;

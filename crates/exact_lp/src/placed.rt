@@ -18,11 +18,13 @@ pub enum PlaceOp {
     Weight { vector: usize, op: IntOp },
 }
 
-/// Whether a matrix is a nonnegative combination of the matrices v·vᵗ of a list of vectors, with the steps that were made.
+/// Whether S/d is a nonnegative combination of the matrices v·vᵗ of a list of vectors, with the steps that were made. Vectors
+/// are named by their indices, counted from 0.
 ///
 /// - `Inside`: it is, with these weights, one for each vector.
-/// - `Outside`: it is not. There is a matrix that is zero at the vectors `zeros` and positive at the vector `leaving`, at
-///   least 0 at each vector of the list, and whose inner product with it is negative.
+/// - `Outside`: it is not. Where S has n rows, `zeros` are n(n+1)/2 - 1 vectors, in increasing order, and their matrices and
+///   that of `leaving` are independent. A matrix that is zero at `zeros` and positive at `leaving` is an extreme ray of those
+///   that are at least 0 at each vector, and its inner product with S is negative.
 /// - `Pivots`: another step is due, and the budget of steps is used.
 /// - `Wide`: an operation does not fit, the first one after the steps.
 /// - `OutOfMemory`: for want of memory. It may come at any time.

@@ -1,15 +1,17 @@
 //! The linear program: is a matrix a nonnegative combination of the matrices v·vᵗ of a list of vectors?
 
 ghost use Rattle.std.specs.Prelude.{◌≡◌, ◌≢◌, ℕ, ◌+◌, ◌-◌, ◌<◌, ◌≤◌, pos, [], ◌∷◌, length, IfOk, Some, None, OnOk, slice_index_or, ◌≤ℤ◌};
+ghost use Rattle.exact_forms.specs.Copositive.{IsPerfect};
 ghost use Rattle.exact_forms.specs.Rational.{whole};
 ghost use Rattle.symmetric_matrix.specs.Owed.{answer};
 ghost use Rattle.exact_linear.specs.Tables.{rows_of, table_entry, basic_at};
 ghost use Rattle.exact_linear.specs.Columns.{IsLastFree};
 ghost use Rattle.exact_linear.specs.Exchange.{entry_is_owed, exchange_ops, exchanged};
 ghost use Rattle.exact_lp.specs.Rule.{target, AreColumns};
-ghost use Rattle.exact_lp.specs.Placement.{Problem, opened, opened_ops, leaving as the_leaving, step_ops, stepped, exchange_of, IsSteppedOption, IsLeft, IsPlaced};
+ghost use Rattle.exact_lp.specs.Placement.{Problem, opened, opened_ops, leaving as the_leaving, step_ops, stepped, exchange_of, IsStepped, HasLeavingRows, IsLeft, IsPlaced};
 ghost use Rattle.exact_lp.specs.Squares.{problem_of};
 ghost use Rattle.exact_lp.specs.Weights.{IsSound};
+ghost use Rattle.exact_lp.specs.Ruled.{IsRuled};
 
 use crate::ends::{inside, outside};
 use crate::lists::Exchanges;
@@ -57,22 +59,23 @@ fn step(
     firsts: &[usize],
     ranks: &[usize],
     entering: usize,
-) -> Result<Option<Exchange>, EntryOp>
+) -> Result<Exchange, EntryOp>
     requires width { rows_of tableau.old + vectors + 2 ≤ tableau.old.width }
     requires ranks { ranks.now ≡ target tableau.old vectors ∷ firsts.now }
     requires columns { AreColumns tableau.old ranks.now }
     requires entering { entering < tableau.old.width }
-    ensures { IsSteppedOption tableau.old vectors firsts.now entering tableau.new result }
+    requires leaves { the_leaving tableau.old vectors firsts.now entering ≢ None }
+    ensures { IsStepped tableau.old vectors firsts.now entering tableau.new result }
 {
     match leaving_row(tableau, vectors, entering, ranks) {
         Ok(Some(row)) => leave(tableau, row, entering),
-        Ok(None) => Ok(None),
+        Ok(None) => unreachable!(),
         Err(op) => Err(op),
     }
 }
 
 // The exchange at a row and a column, told as a step.
-fn leave(tableau: &mut Tableau, row: usize, column: usize) -> Result<Option<Exchange>, EntryOp>
+fn leave(tableau: &mut Tableau, row: usize, column: usize) -> Result<Exchange, EntryOp>
     requires row { row < rows_of tableau.old }
     requires column { column < tableau.old.width }
     requires pivot { table_entry tableau.old row column ≢ whole (pos 0) }
@@ -81,10 +84,10 @@ fn leave(tableau: &mut Tableau, row: usize, column: usize) -> Result<Option<Exch
     let units = tableau.rows();
     let leaving = basic_of(tableau, row);
     match exchange_at(tableau, row, column) {
-        Ok(()) => Ok(Some(Exchange {
+        Ok(()) => Ok(Exchange {
             entering: column.saturating_sub(units),
             leaving: leaving.saturating_sub(units),
-        })),
+        }),
         Err(op) => Err(op),
     }
 }
@@ -99,6 +102,14 @@ fn ranks(alloc: Global, target: usize, firsts: &[usize]) -> Result<Vec<usize>, A
     Ok(ranks)
 }
 
+// An operation on the tableau's entries does not fit, the first one after these steps.
+fn wide(op: EntryOp, steps: Exchanges) -> Placed
+    ensures { result ≡ Placed.Wide (PlaceOp.Tableau op) steps }
+{
+    let op = PlaceOp::Tableau(op);
+    Placed::Wide { op, steps }
+}
+
 // The linear program on the tableau over the units, whose further columns are the vectors' matrices, the target and the
 // reserved column.
 fn place_on(alloc: Global, start: Tableau, vectors: usize, d: Fraction, budget: usize) -> Placed
@@ -106,13 +117,13 @@ fn place_on(alloc: Global, start: Tableau, vectors: usize, d: Fraction, budget: 
     requires row { 1 ≤ rows_of start }
     requires units { (i : ℕ) → i < rows_of start → basic_at start i < rows_of start }
     requires divisor { d ≢ whole (pos 0) }
+    requires leaves { HasLeavingRows (record { start = start; vectors = vectors; d = d }) }
     ensures { IsPlaced (record { start = start; vectors = vectors; d = d }) budget result }
 {
     let mut tableau = start;
     let mut steps = Exchanges::new(alloc);
     if let Err(op) = tableau.bring_in_first(vectors) {
-        let op = PlaceOp::Tableau(op);
-        return Placed::Wide { op, steps };
+        return wide(op, steps);
     }
     let Ok(firsts) = first_columns(alloc, &tableau, vectors) else {
         return Placed::OutOfMemory;
@@ -124,8 +135,7 @@ fn place_on(alloc: Global, start: Tableau, vectors: usize, d: Fraction, budget: 
         return Placed::OutOfMemory;
     };
     if let Err(op) = open(&mut tableau, vectors) {
-        let op = PlaceOp::Tableau(op);
-        return Placed::Wide { op, steps };
+        return wide(op, steps);
     }
     loop {
         if is_inside(&tableau, vectors) {
@@ -138,17 +148,12 @@ fn place_on(alloc: Global, start: Tableau, vectors: usize, d: Fraction, budget: 
             return Placed::Pivots { steps };
         }
         match step(&mut tableau, vectors, &firsts, &ranks, column) {
-            Ok(Some(exchange)) => {
+            Ok(exchange) => {
                 if steps.push(exchange).is_err() {
                     return Placed::OutOfMemory;
                 }
             }
-            // No row can leave. That this can't be isn't proved yet.
-            Ok(None) => return Placed::OutOfMemory,
-            Err(op) => {
-                let op = PlaceOp::Tableau(op);
-                return Placed::Wide { op, steps };
-            }
+            Err(op) => return wide(op, steps),
         }
     }
 }
@@ -156,17 +161,24 @@ fn place_on(alloc: Global, start: Tableau, vectors: usize, d: Fraction, budget: 
 /// Whether S/d is a nonnegative combination of the matrices v·vᵗ of the vectors, by the simplex rule with at most `budget`
 /// steps.
 ///
-/// The vectors have as many coordinates as S has rows, and d is at least 1. Each answer comes after steps of the rule that
-/// were due: `Pivots` after `budget` of them, where another is due and no operation up to then is owed; `Wide` with the first
-/// operation that is owed after the steps; `Outside` only where there are no nonnegative weights. Want of memory may come at
-/// any time.
+/// The vectors have as many coordinates as S has rows, their matrices span all symmetric matrices of that size, and d is at
+/// least 1.
 ///
-/// Not proved yet: that the weights of `Inside` sum to S/d, and that a row can always leave where the vectors' matrices span
-/// all symmetric matrices of that size. Where no row can, the answer is `OutOfMemory`.
+/// Each answer comes after steps of the rule that were due: `Inside` with one weight for each vector, at least 0, whose
+/// combination is S/d; `Outside` only where there are no such weights; `Pivots` after `budget` steps, where another is due and
+/// no operation up to then is owed; `Wide` with the first operation that is owed after the steps. Want of memory may come at
+/// any time; but for it there is one answer.
+///
+/// The first basis has each vector whose matrix is no combination of those of earlier ones. The sum t of its matrices comes in
+/// at the least coordinate of S, of equal ones the last. A step is due while S has a negative coordinate at t and some vector
+/// has: the first such vector enters, and the one whose coordinates of S and of the first basis, divided by that of the
+/// entering vector, are lexicographically least leaves. Each step makes the list of t's coordinates lexicographically greater.
 pub fn place(alloc: Global, vectors: &VectorList, s: &SymInt, d: i128, budget: u32) -> Placed
     requires one_length { (k : ℕ) → k < length vectors.now → length (slice_index_or vectors.now k []) ≡ s.now.size }
     requires positive { pos 1 ≤ℤ d }
+    requires spanning { IsPerfect s.now.size vectors.now }
     ensures answer { IsPlaced (problem_of vectors.now s.now d) budget result }
+    ensures rule { IsRuled vectors.now s.now d result }
     ensures sound { IsSound s.now.size vectors.now s.now d result }
 {
     let (_n, vectors_len) = (s.n(), vectors.len());

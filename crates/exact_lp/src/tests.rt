@@ -89,7 +89,7 @@ fn shown(rt: &impl Abort, alloc: Global, placed: &Placed) -> String {
     }
 }
 
-#[tactic(auto, using(crate::proofs::Examples::four_lengths))]
+#[tactic(auto, using(crate::proofs::Examples::four_lengths, crate::proofs::PerfectExamples::four_perfect))]
 #[test]
 fn a_step_or_its_refusal(rt: HostRuntime) {
     let alloc = rt.alloc();
@@ -101,7 +101,7 @@ fn a_step_or_its_refusal(rt: HostRuntime) {
     assert!(&rt; refused.as_str() == "pivots 0");
 }
 
-#[tactic(auto, using(crate::proofs::Examples::three_lengths))]
+#[tactic(auto, using(crate::proofs::Examples::three_lengths, crate::proofs::PerfectExamples::three_perfect))]
 #[test]
 fn outside_and_inside_with_no_step(rt: HostRuntime) {
     let alloc = rt.alloc();
@@ -114,7 +114,7 @@ fn outside_and_inside_with_no_step(rt: HostRuntime) {
     assert!(&rt; inside.as_str() == "inside 1/2 1/2 1/2");
 }
 
-#[tactic(auto, using(crate::proofs::Examples::one_lengths, crate::proofs::Examples::one_entry))]
+#[tactic(auto, using(crate::proofs::Examples::one_lengths, crate::proofs::Examples::one_entry, crate::proofs::PerfectExamples::one_perfect))]
 #[test]
 fn zero_over_one_row(rt: HostRuntime) {
     let alloc = rt.alloc();

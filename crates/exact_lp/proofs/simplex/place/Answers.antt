@@ -3,7 +3,8 @@ use Rattle.std.proofs.lemmas.Int.{to_z-of_z}
 use mir.Syntax.{w128}
 use mir.Val.{SFits}
 use Rattle.exact_forms.specs.Rational.{whole}
-use Rattle.exact_lp.proofs.Right.{sound}
+use Rattle.exact_lp.proofs.Ruled.{ruled}
+use Rattle.exact_lp.proofs.Sound.{sound, leaving_rows, leaving_rows_as}
 use Rattle.exact_lp.proofs.SquareLists.{start_is, divisor, placed_as}
 use Rattle.exact_lp.proofs.simplex.place.Goals as goal
 
@@ -26,7 +27,17 @@ pub returns-in-Ok-clause-answer : goal.returns-in-Ok-clause-answer
 returns-in-Ok-clause-answer c =
     placed_as c.in-Ok.tableau _ c.len-vectors_len.result _ c.whole.result _ c.args.budget c.place_on.result c.in-Ok.ensures c.len-vectors_len.ensures.value (c.whole.ensures ∙ whole_is c.args.d (search rules)) c.place_on.ensures
 
+pub returns-in-Ok-clause-rule : goal.returns-in-Ok-clause-rule
+returns-in-Ok-clause-rule c =
+    ruled c.args.vectors.now c.args.s.now c.args.d c.n-n.ensures.matrix.positive c.requires.one_length c.requires.spanning c.args.budget c.place_on.result
+    (placed_as c.in-Ok.tableau _ c.len-vectors_len.result _ c.whole.result _ c.args.budget c.place_on.result c.in-Ok.ensures c.len-vectors_len.ensures.value (c.whole.ensures ∙ whole_is c.args.d (search rules)) c.place_on.ensures)
+
 pub returns-in-Ok-clause-sound : goal.returns-in-Ok-clause-sound
 returns-in-Ok-clause-sound c =
-    sound c.args.vectors.now c.args.s.now c.args.d c.args.budget c.place_on.result c.n-n.ensures.matrix.positive c.requires.positive c.requires.one_length
+    sound c.args.vectors.now c.args.s.now c.args.d c.n-n.ensures.matrix.positive c.requires.one_length c.requires.spanning c.args.budget c.place_on.result c.requires.positive
     (placed_as c.in-Ok.tableau _ c.len-vectors_len.result _ c.whole.result _ c.args.budget c.place_on.result c.in-Ok.ensures c.len-vectors_len.ensures.value (c.whole.ensures ∙ whole_is c.args.d (search rules)) c.place_on.ensures)
+
+pub place_on-requires-clause-leaves : goal.place_on-requires-clause-leaves
+place_on-requires-clause-leaves c =
+    leaving_rows_as c.in-Ok.tableau _ c.len-vectors_len.result _ c.whole.result _ c.in-Ok.ensures c.len-vectors_len.ensures.value (c.whole.ensures ∙ whole_is c.args.d (search rules))
+    (leaving_rows c.args.vectors.now c.args.s.now c.args.d c.n-n.ensures.matrix.positive c.requires.one_length c.requires.spanning)

@@ -1,15 +1,16 @@
-use Rattle.std.proofs.Common.{◌≡◌, ◌∙◌, ◌∷◌, sym, ap, ap₂, subst, arith, ℕ, List, length, length-append, Ok, [], ◌+◌}
+use Rattle.std.proofs.Common.{◌≡◌, ◌∙◌, ◌∷◌, sym, ap, ap₂, subst, arith, ℕ, List, length, length-append, [], ◌+◌}
 use Rattle.symmetric_matrix.specs.Owed.{first_owed}
 use Rattle.exact_linear.specs.Tables.{Table}
 use Rattle.exact_linear.specs.Exchange.{entry_is_owed, first_ops}
 use Rattle.exact_lp.specs.Rule.{is_settled}
-use Rattle.exact_lp.specs.Placement.{opened, opened_ops, IsWeighed, IsOutsideAnswer}
+use Rattle.exact_lp.specs.Placement.{opened, opened_ops, IsPlaced, IsWeighed, IsOutsideAnswer}
 use Rattle.exact_lp.proofs.Weighing.{on_ok}
-use Rattle.exact_lp.proofs.Placing.{problem, err_owed, no_error, if_ok_made, is_none, first_done, wide_first, wide_open, settled_weighed, last_free, at_start, at_inside, at_outside, at_pivots, at_wide, at_more, firsts_columns, ranks_columns, entering_within, stepped_facts, step_owed}
+use Rattle.exact_lp.proofs.Placing.{problem, err_owed, no_error, if_ok_made, is_none, first_done, wide_first, wide_open, settled_weighed, last_free, at_start, at_inside, at_outside, at_pivots, at_wide, at_more, firsts_columns, ranks_columns, entering_within, stepped_facts, step_owed, at_row}
 use Rattle.exact_lp.proofs.simplex.place_on.Goals as goal
 
 pub returns-in-Err : goal.returns-in-Err
-returns-in-Err c = wide_first (problem c.args.start c.args.vectors c.args.d) c.args.budget c.new-steps.result c.in-Err.op c.new-steps.ensures (err_owed (first_ops c.args.start c.args.vectors) c.in-Err.op (sym c.bring_in_first.ensures.refused ∙ c.in-Err.is))
+returns-in-Err c = subst (IsPlaced (problem c.args.start c.args.vectors c.args.d) c.args.budget) (sym c.wide.ensures)
+    (wide_first (problem c.args.start c.args.vectors c.args.d) c.args.budget c.new-steps.result c.in-Err.op c.new-steps.ensures (err_owed (first_ops c.args.start c.args.vectors) c.in-Err.op (sym c.bring_in_first.ensures.refused ∙ c.in-Err.is)))
 
 pub first_columns-requires : goal.first_columns-requires
 first_columns-requires c = let D = first_done c.args.start c.bring_in_first.new.self c.args.vectors c.bring_in_first.result c.bring_in_first.ensures.refused (λ e h. c.in_default.not-Err e h) c.bring_in_first.ensures.made in let r = D.rows in let w = D.width in let q = c.requires.width in let o = c.requires.row in omega arith
@@ -40,9 +41,10 @@ open-requires-clause-free c = let D = first_done c.args.start c.bring_in_first.n
 pub returns-in-Err-open : goal.returns-in-Err-open
 returns-in-Err-open c =
     let D = first_done c.args.start c.bring_in_first.new.self c.args.vectors c.bring_in_first.result c.bring_in_first.ensures.refused (λ e h. c.in_default.not-Err e h) c.bring_in_first.ensures.made in
-    wide_open (problem c.args.start c.args.vectors c.args.d) c.args.budget c.new-steps.result c.in-Err-open.op c.new-steps.ensures D.owes
+    subst (IsPlaced (problem c.args.start c.args.vectors c.args.d) c.args.budget) (sym c.wide-in-Err-open.ensures)
+    (wide_open (problem c.args.start c.args.vectors c.args.d) c.args.budget c.new-steps.result c.in-Err-open.op c.new-steps.ensures D.owes
     (ap (λ (t : Table). is_settled t c.args.vectors) (sym D.table) ∙ sym c.is_settled.ensures ∙ c.if-is_settled.false)
-    (ap (λ (t : Table). first_owed entry_is_owed (opened_ops t c.args.vectors)) (sym D.table) ∙ err_owed (opened_ops c.bring_in_first.new.self c.args.vectors) c.in-Err-open.op (sym c.open.ensures.refused ∙ c.in-Err-open.is))
+    (ap (λ (t : Table). first_owed entry_is_owed (opened_ops t c.args.vectors)) (sym D.table) ∙ err_owed (opened_ops c.bring_in_first.new.self c.args.vectors) c.in-Err-open.op (sym c.open.ensures.refused ∙ c.in-Err-open.is)))
 
 pub loop-tableau-init : goal.loop-tableau-init
 loop-tableau-init c =
@@ -89,18 +91,24 @@ step-requires-clause-entering c =
 pub loop-tableau-smaller : goal.loop-tableau-smaller
 loop-tableau-smaller c =
     let more = on_ok c.push.result _ (sym c.is_err.ensures.value ∙ c.if-is_err.false) c.push.ensures.ok in
-    let size = ap length more ∙ length-append c.loop-tableau.steps (c.in-Ok-Some.exchange ∷ []) in
+    let size = ap length more ∙ length-append c.loop-tableau.steps (c.in-Ok-step.exchange ∷ []) in
     let w = c.loop-tableau.invariant.run.within in let n = c.if-len-budget.false in let l = c.len.ensures in omega arith
 
 pub loop-tableau-preserved : goal.loop-tableau-preserved
 loop-tableau-preserved c =
     let more = on_ok c.push.result _ (sym c.is_err.ensures.value ∙ c.if-is_err.false) c.push.ensures.ok in
-    let S = stepped_facts c.loop-tableau.tableau c.step.new.tableau c.args.vectors c.in-Some.column c.deref-in-loop-tableau.result.now c.in-Ok.firsts.items c.step.result c.in-Ok-Some.exchange c.deref-in-loop-tableau.ensures.value (c.in-Ok-Some.is ∙ ap Ok c.in-Ok-Some.field-0-is) c.step.ensures in
-    at_more (problem c.args.start c.args.vectors c.args.d) c.args.budget c.loop-tableau.tableau c.in-Ok.firsts.items c.in-Ok-ranks.ranks.items c.loop-tableau.steps c.loop-tableau.invariant c.in-Some.column c.in-Ok-Some.exchange c.step.new.tableau c.push.new.self
+    let S = stepped_facts c.loop-tableau.tableau c.step.new.tableau c.args.vectors c.in-Some.column c.deref-in-loop-tableau.result.now c.in-Ok.firsts.items c.step.result c.in-Ok-step.exchange c.deref-in-loop-tableau.ensures.value c.in-Ok-step.is c.step.ensures in
+    at_more (problem c.args.start c.args.vectors c.args.d) c.args.budget c.loop-tableau.tableau c.in-Ok.firsts.items c.in-Ok-ranks.ranks.items c.loop-tableau.steps c.loop-tableau.invariant c.in-Some.column c.in-Ok-step.exchange c.step.new.tableau c.push.new.self
     (sym c.is_inside.ensures ∙ c.if-is_inside.false) (sym c.entering.ensures ∙ c.in-Some.is) (λ e. c.if-len-budget.false (c.len.ensures ∙ e)) S.0 S.1 S.2 more
 
 pub returns-in-Err-step : goal.returns-in-Err-step
 returns-in-Err-step c =
-    at_wide (problem c.args.start c.args.vectors c.args.d) c.args.budget c.loop-tableau.tableau c.in-Ok.firsts.items c.in-Ok-ranks.ranks.items c.loop-tableau.steps c.loop-tableau.invariant c.in-Some.column c.in-Err-step.op
+    subst (IsPlaced (problem c.args.start c.args.vectors c.args.d) c.args.budget) (sym c.wide-in-Err-step.ensures)
+    (at_wide (problem c.args.start c.args.vectors c.args.d) c.args.budget c.loop-tableau.tableau c.in-Ok.firsts.items c.in-Ok-ranks.ranks.items c.loop-tableau.steps c.loop-tableau.invariant c.in-Some.column c.in-Err-step.op
     (sym c.is_inside.ensures ∙ c.if-is_inside.false) (sym c.entering.ensures ∙ c.in-Some.is) (λ e. c.if-len-budget.false (c.len.ensures ∙ e))
-    (step_owed c.loop-tableau.tableau c.step.new.tableau c.args.vectors c.in-Some.column c.deref-in-loop-tableau.result.now c.in-Ok.firsts.items c.step.result c.in-Err-step.op c.deref-in-loop-tableau.ensures.value c.in-Err-step.is c.step.ensures)
+    (step_owed c.loop-tableau.tableau c.step.new.tableau c.args.vectors c.in-Some.column c.deref-in-loop-tableau.result.now c.in-Ok.firsts.items c.step.result c.in-Err-step.op c.deref-in-loop-tableau.ensures.value c.in-Err-step.is c.step.ensures))
+
+pub step-requires-clause-leaves : goal.step-requires-clause-leaves
+step-requires-clause-leaves c =
+    at_row (problem c.args.start c.args.vectors c.args.d) c.args.budget c.loop-tableau.tableau c.in-Ok.firsts.items c.in-Ok-ranks.ranks.items c.loop-tableau.steps c.loop-tableau.invariant c.in-Some.column c.deref-in-loop-tableau.result.now
+    c.requires.leaves (sym c.is_inside.ensures ∙ c.if-is_inside.false) (sym c.entering.ensures ∙ c.in-Some.is) c.deref-in-loop-tableau.ensures.value

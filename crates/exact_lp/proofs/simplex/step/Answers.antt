@@ -1,6 +1,6 @@
 use Rattle.std.proofs.Common.{◌∙◌, sym, ap, Ok}
 use Rattle.exact_lp.proofs.Choices.{candidate_not_zero}
-use Rattle.exact_lp.proofs.Placing.{step_refused, step_row, step_left}
+use Rattle.exact_lp.proofs.Placing.{step_refused, step_row, step_has_row, step_left}
 use Rattle.exact_lp.proofs.simplex.step.Goals as goal
 
 pub leave-requires-clause-row : goal.leave-requires-clause-row
@@ -16,3 +16,7 @@ returns-in-Ok-Some c =
 
 pub returns-in-Err : goal.returns-in-Err
 returns-in-Err c = step_refused c.args.tableau.now c.args.vectors c.args.entering c.args.firsts.now c.args.ranks.now c.in-Err.op c.requires.ranks (sym c.leaving_row.ensures ∙ c.in-Err.is)
+
+pub unreachable-requires : goal.unreachable-requires
+unreachable-requires c =
+    step_has_row c.args.tableau.now c.args.vectors c.args.entering c.args.firsts.now c.args.ranks.now c.requires.leaves c.requires.ranks (sym c.leaving_row.ensures ∙ c.in-Ok-None.is ∙ ap Ok c.in-Ok-None.field-0-is)
