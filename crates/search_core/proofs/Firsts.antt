@@ -5,13 +5,13 @@ use Rattle.std.specs.Ordering.{MatchOrdering, is_lt}
 use Rattle.std.specs.Bool.{MatchBool}
 use Rattle.std.specs.declared.cmp.Ordering.{Ordering}
 use Rattle.std.specs.declared.cmp.Ordering.TheVariants.{Less, Equal, Greater}
-use Rattle.std.proofs.Common.{arith, sym, ◌∙◌, ap, refl, inl, inr, subst}
+use Rattle.std.proofs.Common.{arith, sym, ◌∙◌, ap, inl, inr, subst}
 use Rattle.std.proofs.lemmas.List.{take_more, take_all}
 use Rattle.std.proofs.lemmas.List.Elements.{Contains-push, Contains-append_left, Contains-push_cases}
 use Rattle.unimodular_cone.specs.Paths.{Path, IsNoLater, place_order}
 use Rattle.unimodular_cone.proofs.Orders.{place_order_is, no_later_self, no_later_trans}
 use Rattle.search_core.specs.Fair.{Judged}
-use Rattle.search_core.specs.Scans.{IsFirstWith, FindsFirst, IsBefore, IsBehind}
+use Rattle.search_core.specs.Scans.{FindsFirst, IsBefore, IsBehind}
 
 -- ---- the order
 pub earlier_is : (p r : Path) → MatchBool (is_lt (place_order p r)) (IsNoLater p r) (IsNoLater r p)

@@ -1,23 +1,13 @@
 -- Further laws that the code wants.
-use Rattle.std.specs.Prelude.{◌≡◌, ◌≢◌, ℕ, suc, ◌<◌, ◌≤◌, ◌+◌, ◌-◌, ◌^◌, min, ℤ, pos, ◌+ℤ◌, ◌*ℤ◌, ◌≤ℤ◌, ◌<ℤ◌, nat_abs, ◌⊎◌, Some, None, length}
-use Rattle.std.proofs.Common.{arith, sym, ◌∙◌, ap, ap₂, refl, inl, inr, subst}
-use Rattle.std.proofs.lemmas.Int.{ints}
-use Rattle.exact_forms.specs.Forms.{bilinear, IsSymmetric}
-use Rattle.exact_forms.proofs.Slacks.{replaced_here, replaced_other}
-use Rattle.exact_forms.proofs.Forms.{bilinear-add_left, bilinear-add_right, bilinear_symmetric}
-use Rattle.commutative_ring.proofs.Expand.{linear}
+use Rattle.std.specs.Prelude.{◌≡◌, ◌≢◌, ℕ, suc, ◌<◌, ◌≤◌, ◌⊎◌, length}
+use Rattle.std.proofs.Common.{arith, sym, ◌∙◌, ap, ap₂, inl, inr}
 use Rattle.unimodular_cone.specs.declared.WideAt.{WideAt}
 use Rattle.unimodular_cone.specs.Paths.{Path}
 use Rattle.unimodular_cone.specs.declared.WideEntry.{WideEntry}
-use Rattle.unimodular_cone.specs.Cones.{Matrix, Generators, gram, value, child, cone_at, pair_of, IsPair}
+use Rattle.unimodular_cone.specs.Cones.{Matrix, cone_at}
 use Rattle.unimodular_cone.specs.declared.Mode.{Mode}
-use Rattle.unimodular_cone.specs.declared.Mode.TheVariants.{Sign, Least}
 use Rattle.unimodular_cone.specs.Tree.{IsLow, IsFirstLowAt, IsFirstOverBelow}
-use Rattle.search_core.specs.Fair.{Fate, Closed, Split, Low, Dropped, AtLimit, Wide, least_value, code, bound_under, IsClosedUnder, IsUndecided, IsSplitAt, IsFate}
-use Rattle.unimodular_cone.proofs.Pairs.{pair_of_some, pair_of_none, pair_unique}
-use Rattle.unimodular_cone.proofs.Covers.{closed_without_pair}
-use Rattle.unimodular_cone.proofs.Minimum.{not_low_Sign, not_low_Least}
-use Rattle.search_core.proofs.LeastValues.{least_value_le, least_value_attained, code_not_low, bound_within}
+use Rattle.search_core.specs.Fair.{Fate, Closed, Split, Low, Dropped, AtLimit, Wide, IsClosedUnder, IsSplitAt, IsFate}
 use Rattle.unimodular_cone.proofs.Pairs.{some_pair}
 use Rattle.search_core.proofs.Settle.{split_not_wide}
 use Rattle.unimodular_cone.proofs.Unique.{first_low_at_unique, first_over_below_unique}

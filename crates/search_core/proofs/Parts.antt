@@ -1,28 +1,26 @@
 -- What is settled from some judgements of a fair list that have all that tells.
-use Rattle.std.specs.Prelude.{◌≡◌, ◌≢◌, ℕ, zero, suc, ◌<◌, ◌≤◌, ◌-◌, ℤ, pos, ◌≤ℤ◌, ◌⊎◌, List, length}
+use Rattle.std.specs.Prelude.{◌≡◌, ◌≢◌, ℕ, suc, ◌<◌, ◌≤◌, ◌-◌, ℤ, pos, ◌≤ℤ◌, ◌⊎◌, List, length}
 use Rattle.std.specs.List.{Contains}
 use Rattle.std.proofs.Common.{arith, sym, ◌∙◌, ap, refl, inl, inr, subst}
-use Rattle.std.proofs.lemmas.Int.{ints}
 use Rattle.exact_forms.specs.Forms.{IsSymmetric}
-use Rattle.exact_forms.specs.Vectors.{IsIncreasing}
 use Rattle.unimodular_cone.specs.declared.Mode.{Mode}
 use Rattle.unimodular_cone.specs.declared.Mode.TheVariants.{Sign, Least}
 use Rattle.unimodular_cone.specs.declared.WideAt.{WideAt}
 use Rattle.unimodular_cone.specs.Paths.{Path, IsNoLater}
 use Rattle.unimodular_cone.specs.Cones.{Matrix, value, cone_at, unit_vectors, Fits}
-use Rattle.unimodular_cone.specs.Tree.{IsInTree, IsFirstLowAt, IsOpen, IsFirstOverBelow}
+use Rattle.unimodular_cone.specs.Tree.{IsFirstLowAt, IsOpen, IsFirstOverBelow}
 use Rattle.unimodular_cone.specs.Answer.{SearchAnswer, IsSearchAnswer, IsNarrow, IsVector}
 use Rattle.unimodular_cone.specs.Shown.{ShownCone, shown_gram, shown_generators, IsConeAt}
 use Rattle.unimodular_cone.proofs.Unique.{both_le}
-use Rattle.search_core.specs.Fair.{Fate, Closed, Split, Low, Dropped, AtLimit, Wide, Judged, word_of, bound_under, least_value, IsFate, IsJudgement, IsFair, IsLowFate, IsEndFate, IsFairPart}
-use Rattle.search_core.specs.Scans.{IsLowOf, IsUnclosedDown, IsOpenEnd, IsFirstWith, FindsFirst, AreInTree}
+use Rattle.search_core.specs.Fair.{Fate, Closed, Split, Low, Dropped, AtLimit, Wide, Judged, word_of, bound_under, least_value, IsFate, IsEndFate, IsFairPart}
+use Rattle.search_core.specs.Scans.{IsLowOf, IsOpenEnd, IsFirstWith, AreInTree}
 use Rattle.search_core.specs.Attaining.{ListsGenerators}
 use Rattle.search_core.specs.declared.settling.End.{End}
 use Rattle.search_core.specs.Ends.{IsEndOf, NamesEnd}
 use Rattle.search_core.proofs.LeastValues.{least_value_le, least_value_attained}
 use Rattle.search_core.proofs.Settle.{IsLimitFate}
 use Rattle.search_core.proofs.Fairness.{judged_in_tree, limit_is_open}
-use Rattle.search_core.proofs.Answers.{final_bound, some_low, answers_low, answers_depth, answers_wide, ListsJudged, answers_found, answers_copositive}
+use Rattle.search_core.proofs.Answers.{some_low, answers_low, answers_depth, answers_wide, answers_found, answers_copositive}
 use Rattle.search_core.proofs.Bound.{final_bound_Least}
 
 -- ---- ends

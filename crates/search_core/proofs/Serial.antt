@@ -1,5 +1,5 @@
 -- A search with one worker: a stack of paths is the machine with one hand.
-use Rattle.std.specs.Prelude.{◌≡◌, ◌+◌, ℤ, true, false, ℕ, zero, suc, min, List, [], ◌∷◌, ◌++◌}
+use Rattle.std.specs.Prelude.{◌≡◌, ℤ, true, false, ℕ, zero, suc, min, List, [], ◌∷◌, ◌++◌}
 use Rattle.std.proofs.Common.{arith, refl, sym, ap₂, subst}
 use Rattle.unimodular_cone.specs.Paths.{Path}
 use Rattle.unimodular_cone.specs.Cones.{Matrix, cone_at}

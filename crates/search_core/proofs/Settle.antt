@@ -1,6 +1,6 @@
 -- A fair list of judgements settles to the search's answer.
 use Rattle.std.specs.Prelude.{◌≡◌, ◌≢◌, ℕ, ◌<◌, ◌≤◌, ◌-◌, max, ℤ, pos, ◌≤ℤ◌, true, false, ◌⊎◌, Option, Some, [], ◌∷◌, ◌++◌, length}
-use Rattle.std.proofs.Common.{arith, sym, ◌∙◌, ap, refl, inl, inr, subst}
+use Rattle.std.proofs.Common.{arith, sym, ◌∙◌, refl, inl, inr, subst}
 use Rattle.std.proofs.lemmas.Int.{ints}
 use Rattle.exact_forms.specs.Forms.{form, IsSymmetric}
 use Rattle.exact_forms.specs.Slacks.{IsClosed}

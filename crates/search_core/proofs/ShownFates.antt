@@ -1,7 +1,6 @@
 -- The code and the fate of a cone that is shown are those of its path.
-use Rattle.std.specs.Prelude.{◌≡◌, ◌≢◌, ℕ, zero, suc, ◌<◌, ◌≤◌, ◌+◌, ◌-◌, ◌^◌, min, ℤ, pos, ◌+ℤ◌, ◌≤ℤ◌, ◌<ℤ◌, nat_abs, cond, eqb, ◌⊎◌, Bool, true, false, Option, Some, None, ◌++◌, ◌∷◌, [], length}
+use Rattle.std.specs.Prelude.{◌≡◌, ◌≢◌, ℕ, zero, suc, ◌<◌, ◌≤◌, ◌+◌, ◌-◌, ◌^◌, min, ℤ, pos, ◌+ℤ◌, ◌≤ℤ◌, nat_abs, cond, eqb, ◌⊎◌, true, false, Option, Some, None, ◌++◌, ◌∷◌, [], length}
 use Rattle.std.proofs.Common.{arith, sym, ◌∙◌, ap, ap₂, refl, inl, inr, subst}
-use Rattle.std.proofs.lemmas.Int.{ints}
 use Rattle.commutative_ring.proofs.Expand.{linear}
 use Rattle.exact_forms.specs.Sums.{sum_to}
 use Rattle.exact_forms.specs.Slacks.{slack, shortfall, IsClosed}
@@ -14,17 +13,17 @@ use Rattle.unimodular_cone.specs.Paths.{Path}
 use Rattle.unimodular_cone.specs.Cones.{Matrix, Generators, gram, value, child, child_gram, cone_at, pair_of, IsPair, Fits, IsFirstOver, FitsLimits}
 use Rattle.unimodular_cone.specs.Tree.{CanSplit, IsClosedAt, IsLowValue, IsLow, IsFirstLowAt, IsFirstOverBelow}
 use Rattle.unimodular_cone.specs.Answer.{IsLeastDiagonal}
-use Rattle.unimodular_cone.specs.Shown.{ShownCone, shown_gram, shown_generators, IsConeOf, IsConeAt, NamesPair, FitsOnBothSides, FitsOnSide, IsFirstWide, IsFirstWideBelow}
+use Rattle.unimodular_cone.specs.Shown.{ShownCone, shown_gram, shown_generators, IsConeOf, IsConeAt, NamesPair, FitsOnBothSides, FitsOnSide, IsFirstWideBelow}
 use Rattle.unimodular_cone.proofs.Pairs.{pair_is, pair_same, some_pair}
 use Rattle.unimodular_cone.proofs.Additions.{gram-child}
 use Rattle.unimodular_cone.proofs.ShownLaws.{shown_gram_mirror}
 use Rattle.unimodular_cone.proofs.LimitsSame.{SameBelow, same_back, fits_same, first_over_same}
 use Rattle.unimodular_cone.proofs.Unique.{both_le}
 use Rattle.unimodular_cone.proofs.Minimum.{not_low_Sign, not_low_Least}
-use Rattle.search_core.specs.Fair.{Fate, Closed, Split, Low, Dropped, AtLimit, Wide, least_upto, least_value, code, code_of, bound_under, IsClosedUnder, IsUndecided, IsSplitAt, IsFate}
+use Rattle.search_core.specs.Fair.{Fate, Closed, Split, Low, Dropped, AtLimit, Wide, least_upto, least_value, code, code_of, bound_under, IsUndecided, IsSplitAt, IsFate}
 use Rattle.search_core.specs.Scans.{SplitsShown}
 use Rattle.unimodular_cone.proofs.ShownAt.{no_pair_at}
-use Rattle.search_core.specs.Judging.{shown_least, shown_code, IsLowShown, IsFirstLowShown, IsClosedShown, IsUndecidedShown, IsShownFate}
+use Rattle.search_core.specs.Judging.{shown_least, shown_code, IsLowShown, IsFirstLowShown, IsUndecidedShown, IsShownFate}
 use Rattle.search_core.proofs.LeastValues.{least_upto_le, least_upto_attained, code_not_low, bound_within}
 
 -- ---- least values

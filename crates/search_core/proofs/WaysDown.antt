@@ -1,59 +1,25 @@
 -- Ways down from the root to a path of the tree.
-use Rattle.std.specs.Prelude.{◌≡◌, ◌⊎◌, ℕ, ◌<◌, ◌≤◌, ◌+◌, ℤ, pos, ◌≤ℤ◌, ◌-◌, ◌^◌, FitsSigned, Bool, true, false, not, IsTrue, ◌↔◌, nat_eq, Option, Some, None, [], ◌∷◌, ◌++◌, length, take}
+use Rattle.std.specs.Prelude.{◌≡◌, ◌⊎◌, ℕ, ◌<◌, ◌+◌, ℤ, pos, ◌≤ℤ◌, ◌-◌, ◌^◌, FitsSigned, Bool, true, false, not, IsTrue, ◌↔◌, nat_eq, [], ◌∷◌, ◌++◌, length, take}
 use Rattle.std.specs.Int.{w128}
 use Rattle.std.proofs.lemmas.Int.{ints, to_z-of_z}
-use Rattle.std.proofs.Common.{to_z, of_z, arith, sym, ◌∙◌, ap, refl, inl, inr, subst, length-take-le}
+use Rattle.std.proofs.Common.{to_z, of_z, arith, sym, ◌∙◌, ap, refl, inl, inr, subst}
 use Rattle.std.proofs.lemmas.List.{take_more, take_all}
-use Rattle.unimodular_cone.specs.declared.WideAt.{WideAt}
 use Rattle.unimodular_cone.specs.declared.ConeFail.{ConeFail}
 use Rattle.unimodular_cone.specs.declared.ConeFail.TheVariants.{Wide, OutOfMemory}
-use Rattle.unimodular_cone.specs.Paths.{Path, IsAbove, digit_of, digit_at}
-use Rattle.unimodular_cone.specs.Cones.{Matrix, gram, pair_of, unit_vectors, cone_from, cone_at, child_at, Fits}
-use Rattle.unimodular_cone.specs.Tree.{CanSplit, IsInTree, IsClosedAt}
-use Rattle.unimodular_cone.specs.Shown.{ShownCone, IsConeAt, IsNext, IsFirstWide, IsFirstWideAt, IsWideWhere, FitsOnSide, IsReachable}
+use Rattle.unimodular_cone.specs.Paths.{Path, digit_of, digit_at}
+use Rattle.unimodular_cone.specs.Cones.{Matrix, unit_vectors, cone_from, Fits}
+use Rattle.unimodular_cone.specs.Tree.{IsClosedAt}
+use Rattle.unimodular_cone.specs.Shown.{ShownCone, IsConeAt, IsNext, IsFirstWideAt, IsWideWhere}
 use Rattle.unimodular_cone.proofs.Orders.{take_is_above, above_is_take}
-use Rattle.unimodular_cone.proofs.Tree.{above_shorter, cone_at-side, in_tree_above}
+use Rattle.unimodular_cone.proofs.Tree.{above_shorter}
 use Rattle.unimodular_cone.proofs.ShownAt.{child_at_path}
 use Rattle.search_core.specs.Scans.{IsUnclosedDown}
-use Rattle.search_core.proofs.Times.{snoc_cases}
 
 -- ---- refusals that do not come
 pub root_not_wide : (n : ℕ) (q : Matrix) (fail : ConeFail) → Fits n q unit_vectors → IsWideWhere (IsFirstWideAt n q []) fail → ⊥
 unfolding cone_from
 root_not_wide n q (Wide at) fits w = fits at.entry w.entry.over
 root_not_wide n q OutOfMemory fits w = w
-
-pub child_not_wide : (c : ShownCone) (i j : ℕ) (side : Bool) (fail : ConeFail) → FitsOnSide c i j side → IsWideWhere (IsFirstWide c i j side) fail → ⊥
-child_not_wide c i j side (Wide at) fits w = fits at.entry w.entry.over
-child_not_wide c i j side OutOfMemory fits w = w
-
--- ---- the cones of the tree fit
-pub fits_in_tree : (n : ℕ) (q : Matrix) (d : ℕ) (path : Path) → Fits n q unit_vectors → IsInTree n q d path → Fits n q (cone_at n q path)
-unfolding cone_from
-fits_in_tree n q d path root_fits t = by (snoc_cases path)
-  where
-    at_side : (p : Path) (can : CanSplit n q (cone_at n q p)) (side : Bool) → Fits n q (child_at (Some (can.i, can.j)) (cone_at n q p) side)
-    at_side p can false = can.first_fits
-    at_side p can true = can.second_fits
-
-    by : ((path ≡ []) ⊎ ((p : Path) × (side : Bool) × (path ≡ p ++ side ∷ []))) → Fits n q (cone_at n q path)
-    by (inl e) = subst (λ (p : Path). Fits n q (cone_at n q p)) (sym e) root_fits
-    by (inr (p, side, e)) =
-        let can : CanSplit n q (cone_at n q p) = t.above p (side, [], e) in
-        subst (λ (r : Path). Fits n q (cone_at n q r)) (sym e) (rw (cone_at-side n q p side (Some (can.i, can.j)) can.pair) (at_side p can side))
-
-pub reachable : (n : ℕ) (q : Matrix) (d : ℕ) (path : Path) → Fits n q unit_vectors → IsInTree n q d path → IsReachable n q path
-reachable n q d path root_fits t = record {
-  pair = λ a above none. no_pair a (t.above a above) none;
-  fits = λ a above. fits_in_tree n q d a root_fits (in_tree_above n q d a path t above);
-}
-  where
-    no_pair : (a : Path) (can : CanSplit n q (cone_at n q a)) → pair_of n (gram n q (cone_at n q a)) ≡ None → ⊥
-    no_pair a can none = let e : ◌≡◌ {A = Option (ℕ × ℕ)} None (Some (can.i, can.j)) = sym none ∙ can.pair in cc
-
-pub path_not_wide : (n : ℕ) (q : Matrix) (d : ℕ) (path : Path) (fail : ConeFail) → Fits n q unit_vectors → IsInTree n q d path → IsWideWhere (IsFirstWideAt n q path) fail → ⊥
-path_not_wide n q d path (Wide at) fits t w = fits_in_tree n q d path fits t at.entry w.entry.over
-path_not_wide n q d path OutOfMemory fits t w = w
 
 -- ---- the way down
 digit_back : (b : Bool) → nat_eq (digit_of b) 1 ≡ b
@@ -72,16 +38,22 @@ pub record IsDownAt (n : ℕ) (q : Matrix) (b : ℤ) (path : Path) (k : ℕ) (c 
 pub down_at_root : (n : ℕ) (q : Matrix) (b : ℤ) (path : Path) (c : ShownCone) → IsConeAt n q [] c → IsDownAt n q b path 0 c
 down_at_root n q b path c h = record { at_path = h; unclosed = λ i l. absurd (omega arith) }
 
-pub down_more : (n : ℕ) (q : Matrix) (b : ℤ) (path : Path) (k : ℕ) (c r : ShownCone) → k < length path → IsDownAt n q b path k c → (¬ IsClosedAt n q (take k path) b)
-    → IsNext c (nat_eq (digit_of (digit_at path k)) 1) r → IsDownAt n q b path (k + 1) r
-down_more n q b path k c r l h unclosed next = record {
-  at_path = subst (λ (p : Path). IsConeAt n q p r) more (child_at_path n q (take k path) c h.at_path next.i next.j (nat_eq (digit_of (digit_at path k)) 1) r next.pair next.child);
-  unclosed = λ i li. by i (last i li);
-}
+-- the cone at one more digit of the path
+pub way_more : (n : ℕ) (q : Matrix) (path : Path) (k : ℕ) (c r : ShownCone) → k < length path → IsConeAt n q (take k path) c
+    → IsNext c (nat_eq (digit_of (digit_at path k)) 1) r → IsConeAt n q (take (k + 1) path) r
+way_more n q path k c r l at next =
+    subst (λ (p : Path). IsConeAt n q p r) more (child_at_path n q (take k path) c at next.i next.j (nat_eq (digit_of (digit_at path k)) 1) r next.pair next.child)
   where
     more : take k path ++ nat_eq (digit_of (digit_at path k)) 1 ∷ [] ≡ take (k + 1) path
     more = ap (λ (b : Bool). take k path ++ b ∷ []) (digit_back (digit_at path k)) ∙ sym (take_more path k false l)
 
+pub down_more : (n : ℕ) (q : Matrix) (b : ℤ) (path : Path) (k : ℕ) (c r : ShownCone) → k < length path → IsDownAt n q b path k c → (¬ IsClosedAt n q (take k path) b)
+    → IsNext c (nat_eq (digit_of (digit_at path k)) 1) r → IsDownAt n q b path (k + 1) r
+down_more n q b path k c r l h unclosed next = record {
+  at_path = way_more n q path k c r l h.at_path next;
+  unclosed = λ i li. by i (last i li);
+}
+  where
     last : (i : ℕ) → i < k + 1 → (i < k) ⊎ (i ≡ k)
     last i l = grind arith
 

@@ -8,7 +8,7 @@
 --     AreKeys n keys             each is n numbers of at most 2^62, and zeros up to 8
 --     IsVectorsOf n keys list    the list has the first n numbers of each key, and is increasing
 --     ListsGenerators            the generators of value z of the judgements whose least value is z, increasing
-use Rattle.std.specs.Prelude.{ℕ, ℤ, pos, ◌<◌, ◌≤◌, ◌^◌, ◌≡◌, ◌⊎◌, List, length, map, take, slice_index_or}
+use Rattle.std.specs.Prelude.{ℕ, ℤ, ◌<◌, ◌≤◌, ◌^◌, ◌≡◌, ◌⊎◌, List, length, map, take, slice_index_or}
 use Rattle.std.specs.List.{Contains}
 use Rattle.exact_forms.specs.Vectors.{coordinate, IsIncreasing}
 use Rattle.unimodular_cone.specs.Cones.{Matrix, value, cone_at}

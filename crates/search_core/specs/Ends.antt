@@ -9,7 +9,7 @@ use Rattle.unimodular_cone.specs.declared.Mode.{Mode}
 use Rattle.unimodular_cone.specs.Cones.{Matrix}
 use Rattle.unimodular_cone.specs.Answer.{SearchAnswer, IsSearchAnswer}
 use Rattle.search_core.specs.declared.settling.End.{End}
-use Rattle.search_core.specs.Fair.{Fate, AtLimit, Wide, Judged, bound_under}
+use Rattle.search_core.specs.Fair.{AtLimit, Wide, Judged, bound_under}
 use Rattle.search_core.specs.Scans.{IsOpenEnd}
 
 abbrev pub IsEndOf : Mode → ℕ → Matrix → ℕ → List Judged → ℕ → End → Type 0

@@ -10,11 +10,12 @@ ghost use Rattle.unimodular_cone.specs.Shown.{IsConeAt, IsWithinLimits, shown_ge
 ghost use Rattle.search_core.specs.Attaining.{IsKeyOf, IsWithKey, AddsAttaining, HasGenerators, AreKeys, IsVectorsOf, ListsGenerators};
 ghost use Rattle.search_core.specs.Scans.{AreInTree};
 
+use crate::descent::{fitting_root, step_down};
 use crate::fate::Judged;
 use std::alloc::{AllocError, Global};
 use std::collections::BTreeSet;
 use symmetric_matrix::{IntVector, SymInt, VectorList};
-use unimodular_cone::{Cone, ConeRead, Path, at_path};
+use unimodular_cone::{Cone, ConeRead, Path};
 
 /// A generator's coordinates, with zeros past them, so that keys are in the vectors' order.
 type Key = [u64; 8];
@@ -84,10 +85,11 @@ pub(crate) fn fitting_cone(q: &SymInt, limit: u8, path: &Path) -> Cone
     requires fits { Fits q.now.size (entry q.now) unit_vectors }
     ensures { IsConeAt q.now.size (entry q.now) path.now result }
 {
-    match at_path(q, path) {
-        Ok(cone) => cone,
-        Err(_) => unreachable!(),
+    let mut cone = fitting_root(q);
+    for k in 0..path.len() {
+        step_down(&mut cone, path.digit(k));
     }
+    cone
 }
 
 /// The keys of the generators of this value of the judgements whose least value it is.

@@ -4,14 +4,14 @@ ghost use Rattle.std.specs.Prelude.{◌≡◌, ◌≤◌, ◌<◌, ◌-◌, [], 
 ghost use Rattle.symmetric_matrix.specs.Symmetric.{entry};
 ghost use Rattle.unimodular_cone.specs.Cones.{unit_vectors, Fits};
 ghost use Rattle.unimodular_cone.specs.Tree.{IsInTree};
-ghost use Rattle.unimodular_cone.specs.Shown.{FitsOnSide, IsChild, IsNext, IsConeAt};
+ghost use Rattle.unimodular_cone.specs.Shown.{IsNext, IsConeAt};
 ghost use Rattle.search_core.specs.Scans.{SplitsShown, IsUnclosedDown};
 
 use symmetric_matrix::SymInt;
-use unimodular_cone::{Cone, Path, child, closed, pair, root};
+use unimodular_cone::{Cone, Path, closed, pair, root};
 
 /// The root of a matrix whose root fits.
-pub fn fitting_root(q: &SymInt) -> Cone
+pub(crate) fn fitting_root(q: &SymInt) -> Cone
     requires { Fits q.now.size (entry q.now) unit_vectors }
     ensures { IsConeAt q.now.size (entry q.now) [] result }
 {
@@ -21,31 +21,15 @@ pub fn fitting_root(q: &SymInt) -> Cone
     }
 }
 
-/// A child that fits, on a side of the generators i and j, which count from 1.
-pub fn fitting_child(c: &Cone, i: u8, j: u8, side: u8) -> Cone
-    requires first { 1 ≤ i }
-    requires order { i < j }
-    requires last { j ≤ c.now.size }
+/// Goes down from a cone that splits to its child on a side of its pair.
+pub(crate) fn step_down(c: &mut Cone, side: u8)
     requires digit { side < 2 }
-    requires room { length c.now.path < 200 }
-    requires fits { FitsOnSide c.now (i - 1) (j - 1) (nat_eq side 1) }
-    ensures { IsChild c.now (i - 1) (j - 1) (nat_eq side 1) result }
-{
-    match child(c, i, j, side) {
-        Ok(cone) => cone,
-        Err(_) => unreachable!(),
-    }
-}
-
-/// The child of a cone that splits, on a side of its pair.
-fn next_cone(c: &Cone, side: u8) -> Cone
-    requires digit { side < 2 }
-    requires room { length c.now.path < 200 }
-    requires splits { SplitsShown c.now }
-    ensures { IsNext c.now (nat_eq side 1) result }
+    requires room { length c.old.path < 200 }
+    requires splits { SplitsShown c.old }
+    ensures { IsNext c.old (nat_eq side 1) c.new }
 {
     match pair(c) {
-        Some((i, j)) => fitting_child(c, i, j, side),
+        Some((i, j)) => c.step(i, j, side),
         None => unreachable!(),
     }
 }
@@ -63,7 +47,7 @@ pub(crate) fn is_unclosed_down(q: &SymInt, limit: u8, path: &Path, bound: i128) 
         if closed(&cone, bound) {
             return false;
         }
-        cone = next_cone(&cone, path.digit(k));
+        step_down(&mut cone, path.digit(k));
     }
     !closed(&cone, bound)
 }

@@ -1,13 +1,14 @@
 //! The fate of a cone under a word.
 
-ghost use Rattle.std.specs.Prelude.{◌≡◌, ◌≤◌, ◌<◌, ◌-◌, ℕ, suc, length, Some, MatchOption, OnOk, OnErr};
-ghost use Rattle.unimodular_cone.specs.Shown.{IsWithinLimits};
+ghost use Rattle.std.specs.Prelude.{◌≡◌, ◌≤◌, ◌<◌, ◌-◌, ℕ, suc, min, length, Some, MatchOption, OnOk, OnErr};
+ghost use Rattle.unimodular_cone.specs.Answer.{IsLeastDiagonal};
+ghost use Rattle.unimodular_cone.specs.Shown.{shown_gram, IsWithinLimits};
 ghost use Rattle.search_core.specs.Judging.{shown_code, IsLowShown, IsFirstLowShown, IsClosedShown, IsUndecidedShown, IsShownFate, IsJudgementOf};
 ghost use Rattle.std.specs.Bool.{MatchBool};
 ghost use Rattle.search_core.specs.Fair.{IsUntold, IsKeptOrUntold};
 
 use crate::fate::{Fate, Judged};
-use crate::words::{bound_under, is_low_value};
+use crate::words::{bound_under, code_at, is_low_value};
 use std::alloc::AllocError;
 use unimodular_cone::{ConeRead, Mode, children_fit, closed, least_value, pair};
 
@@ -46,21 +47,34 @@ fn undecided_fate<C: ConeRead>(mode: Mode, c: &C, limit: u8, word: u64) -> Fate
     }
 }
 
-/// The fate of a cone under a word, with a limit of depth: the first that applies of these. The word is a depth that is
-/// less than the cone's: Dropped. A generator is low: Low. The cone is closed at the word's bound: Closed. The word is the
-/// cone's depth: Dropped. The depth is the limit: AtLimit. A child does not fit: Wide. Else Split, at the cone's pair.
-pub fn judge<C: ConeRead>(mode: Mode, c: &C, limit: u8, word: u64) -> Fate
+/// The first low generator of a cone whose least value is low.
+fn which_low<C: ConeRead>(mode: Mode, c: &C) -> u8
+    requires { IsLowShown mode (C.cone c.now) }
+    ensures { (k : ℕ) × (result ≡ suc k) × IsFirstLowShown mode (C.cone c.now) k }
+{
+    match first_low(mode, c) {
+        Some(which) => which,
+        None => unreachable!(),
+    }
+}
+
+/// The fate of a cone whose least value is this.
+fn fate_of<C: ConeRead>(mode: Mode, c: &C, limit: u8, word: u64, least: i128) -> Fate
     requires below_code { word ≤ shown_code mode (C.cone c.now) }
     requires limited { limit ≤ 200 }
     requires within { length (C.cone c.now).path ≤ limit }
+    requires least { IsLeastDiagonal (C.cone c.now).size (shown_gram (C.cone c.now)) least }
     ensures { IsShownFate mode (C.cone c.now) limit word result }
 {
+    let _n = c.n();
     let depth = c.path().len();
     if word < u64::from(depth) {
         return Fate::Dropped { word };
     }
-    if let Some(which) = first_low(mode, c) {
-        return Fate::Low { which };
+    if is_low_value(mode, least) {
+        return Fate::Low {
+            which: which_low(mode, c),
+        };
     }
     if closed(c, i128::from(bound_under(mode, word))) {
         return Fate::Closed { word };
@@ -71,6 +85,33 @@ pub fn judge<C: ConeRead>(mode: Mode, c: &C, limit: u8, word: u64) -> Fate
     undecided_fate(mode, c, limit, word)
 }
 
+/// The fate of a cone under a word, with a limit of depth: the first that applies of these. The word is a depth that is
+/// less than the cone's: Dropped. A generator is low: Low. The cone is closed at the word's bound: Closed. The word is the
+/// cone's depth: Dropped. The depth is the limit: AtLimit. A child does not fit: Wide. Else Split, at the cone's pair.
+pub fn judge<C: ConeRead>(mode: Mode, c: &C, limit: u8, word: u64) -> Fate
+    requires below_code { word ≤ shown_code mode (C.cone c.now) }
+    requires limited { limit ≤ 200 }
+    requires within { length (C.cone c.now).path ≤ limit }
+    ensures { IsShownFate mode (C.cone c.now) limit word result }
+{
+    fate_of(mode, c, limit, word, least_value(c))
+}
+
+/// The judgement of a cone whose least value is this.
+fn judgement_of<C: ConeRead>(mode: Mode, c: &C, limit: u8, word: u64, least: i128) -> Judged
+    requires below_code { word ≤ shown_code mode (C.cone c.now) }
+    requires limited { limit ≤ 200 }
+    requires within { length (C.cone c.now).path ≤ limit }
+    requires least { IsLeastDiagonal (C.cone c.now).size (shown_gram (C.cone c.now)) least }
+    ensures { IsJudgementOf mode (C.cone c.now) limit word result }
+{
+    Judged {
+        path: c.path(),
+        fate: fate_of(mode, c, limit, word, least),
+        least,
+    }
+}
+
 /// The judgement of a cone under a word, with a limit of depth.
 pub fn judgement<C: ConeRead>(mode: Mode, c: &C, limit: u8, word: u64) -> Judged
     requires below_code { word ≤ shown_code mode (C.cone c.now) }
@@ -78,11 +119,20 @@ pub fn judgement<C: ConeRead>(mode: Mode, c: &C, limit: u8, word: u64) -> Judged
     requires within { length (C.cone c.now).path ≤ limit }
     ensures { IsJudgementOf mode (C.cone c.now) limit word result }
 {
-    Judged {
-        path: c.path(),
-        fate: judge(mode, c, limit, word),
-        least: least_value(c),
-    }
+    judgement_of(mode, c, limit, word, least_value(c))
+}
+
+/// The judgement of a cone, with a limit of depth, under a word that first falls to the cone's code if that is less.
+pub fn lowering_judgement<C: ConeRead>(mode: Mode, c: &C, limit: u8, word: &mut u64) -> Judged
+    requires limited { limit ≤ 200 }
+    requires within { length (C.cone c.now).path ≤ limit }
+    ensures word { word.new ≡ min word.old (shown_code mode (C.cone c.now)) }
+    ensures judged { IsJudgementOf mode (C.cone c.now) limit word.new result }
+{
+    let least = least_value(c);
+    let lower = (*word).min(code_at(mode, c.path().len(), least));
+    *word = lower;
+    judgement_of(mode, c, limit, lower, least)
 }
 
 /// Whether an answer may look at a judgement that was made under this word: it is low, it is an end of the tree, or its
@@ -104,9 +154,12 @@ pub fn keep(judged: &mut Vec<Judged>, mode: Mode, j: Judged, word: u64) -> Resul
     ensures kept { OnOk result (IsKeptOrUntold mode word j judged.old.items judged.new.items) }
     ensures err { OnErr result (judged.new.items ≡ judged.old.items) }
 {
-    let Judged { path, fate, least } = j;
     if tells(mode, &j, word) {
-        judged.push(Judged { path, fate, least })?;
+        judged.push(Judged {
+            path: j.path,
+            fate: j.fate,
+            least: j.least,
+        })?;
     }
     Ok(())
 }

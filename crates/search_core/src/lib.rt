@@ -13,9 +13,8 @@ mod settling;
 mod words;
 
 pub use answer::{Least, Sign};
-pub use descent::{fitting_child, fitting_root};
 pub use fate::{Fate, Judged};
-pub use judging::{judge, judgement, keep, tells};
+pub use judging::{judge, judgement, keep, lowering_judgement, tells};
 pub use law::{at_most_one_fate, code_is_of_the_path, fate_is_of_the_path};
 pub use searcher::Searcher;
 pub use settling::{settle_least, settle_least_part, settle_sign, settle_sign_part};

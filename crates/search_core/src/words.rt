@@ -59,7 +59,7 @@ pub fn start_word(mode: Mode, q: &SymInt) -> u64
 }
 
 /// The code of a cone of this depth whose least value is this.
-fn code_at(mode: Mode, depth: u8, least: i128) -> u64
+pub(crate) fn code_at(mode: Mode, depth: u8, least: i128) -> u64
     ensures { result ≡ code_of mode depth least }
 {
     if is_low_value(mode, least) {

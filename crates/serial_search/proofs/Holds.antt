@@ -1,6 +1,6 @@
 -- What the answers say, and the answers at the root.
-use Rattle.std.specs.Prelude.{◌≡◌, ◌≢◌, ℕ, [], List}
-use Rattle.std.proofs.Common.{sym, inl, subst}
+use Rattle.std.specs.Prelude.{◌≢◌, ℕ, []}
+use Rattle.std.proofs.Common.{inl, subst}
 use Rattle.exact_forms.specs.Forms.{IsSymmetric}
 use Rattle.unimodular_cone.specs.declared.Mode.{Mode}
 use Rattle.unimodular_cone.specs.declared.WideAt.{WideAt}

@@ -1,27 +1,27 @@
 -- A search with a stack is the machine with one hand.
-use Rattle.std.specs.Prelude.{◌≡◌, ◌≢◌, ℕ, zero, suc, ◌<◌, ◌≤◌, ◌+◌, ◌-◌, ◌*◌, ◌^◌, min, ℤ, pos, ◌<ℤ◌, ◌≤ℤ◌, ◌⊎◌, Bool, true, false, Some, List, [], ◌∷◌, ◌++◌, length, map, sum_by}
+use Rattle.std.specs.Prelude.{◌≡◌, ◌≢◌, ℕ, zero, suc, ◌<◌, ◌≤◌, ◌+◌, ◌-◌, ◌*◌, ◌^◌, min, ℤ, ◌<ℤ◌, ◌⊎◌, Bool, true, false, List, [], ◌∷◌, ◌++◌, length, map}
 use Rattle.std.specs.List.{Contains}
 use Rattle.std.proofs.Common.{arith, sym, ◌∙◌, ap, ap₂, refl, inl, inr, subst, length-append}
 use Rattle.std.proofs.lemmas.Int.{ints}
 use Rattle.std.proofs.Math.Nat.{pow-suc, one-le-pow}
 use Rattle.std.proofs.lemmas.List.{map-append, append-nil}
-use Rattle.std.proofs.lemmas.List.Elements.{Contains-push, Contains-append_left, Contains-append_right, Contains-append_cases, Contains-push_cases}
+use Rattle.std.proofs.lemmas.List.Elements.{Contains-push, Contains-append_left, Contains-append_cases, Contains-push_cases}
 use Rattle.unimodular_cone.specs.declared.Mode.{Mode}
-use Rattle.unimodular_cone.specs.declared.Mode.TheVariants.{Sign, Least}
+use Rattle.unimodular_cone.specs.declared.Mode.TheVariants.{Least}
 use Rattle.unimodular_cone.specs.Paths.{Path}
-use Rattle.unimodular_cone.specs.Cones.{Matrix, cone_at}
-use Rattle.unimodular_cone.specs.Shown.{ShownCone, IsChild, IsConeAt, IsWithinLimits, NamesPair, FitsOnBothSides}
+use Rattle.unimodular_cone.specs.Cones.{Matrix}
+use Rattle.unimodular_cone.specs.Shown.{ShownCone, IsChild, IsConeAt}
 use Rattle.unimodular_cone.proofs.ShownAt.{child_at_path}
 use Rattle.unimodular_cone.proofs.Unique.{contains_cons, contains_here, contains_there}
 use Rattle.search_core.specs.declared.Fate.{Fate}
 use Rattle.search_core.specs.declared.Fate.TheVariants.{Closed, Split, Low, Dropped, AtLimit, Wide}
 use Rattle.search_core.specs.declared.Judged.{Judged}
-use Rattle.search_core.specs.Fair.{code, start_word, bound_under, least_value, IsLowFate, IsEndFate, IsFate, IsUntold, IsKeptOrUntold, HasAllThatTells, IsFairPart}
-use Rattle.search_core.specs.Judging.{shown_code, shown_least, IsShownFate, IsJudgementOf}
+use Rattle.search_core.specs.Fair.{code, start_word, bound_under, IsLowFate, IsEndFate, IsFate, IsUntold, IsKeptOrUntold, IsFairPart}
+use Rattle.search_core.specs.Judging.{shown_code, IsShownFate, IsJudgementOf}
 use Rattle.search_core.specs.Machine.{IsKept}
 use Rattle.search_core.proofs.ShownFates.{shown_code_at, shown_least_at, fate_at}
 use Rattle.search_core.proofs.Serial.{alone, alone_start, alone_end, stacked, stack_turn}
-use Rattle.serial_search.specs.Turns.{SplitsAt, AreChildrenOn, AreStacked}
+use Rattle.serial_search.specs.Turns.{IsOnTop, SplitsAt, AreStacked}
 
 abbrev pub path_of : ShownCone → Path
 path_of c = c.path
@@ -118,7 +118,7 @@ untold_lower m word lower j le u = record { not_low = u.not_low; no_end = u.no_e
     by above large = omega (arith, ints)
 
 module _ (m : Mode) (n : ℕ) (q : Matrix) (d : ℕ) (stack front new : List ShownCone) (cone : ShownCone) (word : ℕ) (kept kept' : List Judged) (j : Judged) (some : 1 ≤ n) (h : IsSearching m n q d stack word kept)
-    (popped : stack ≡ front ++ cone ∷ []) (judged : IsJudgementOf m cone d (min word (shown_code m cone)) j) (stacks : AreStacked cone j.fate front new) (keeps : IsKeptOrUntold m (min word (shown_code m cone)) j kept kept') where
+    (popped : IsOnTop cone front stack) (judged : IsJudgementOf m cone d (min word (shown_code m cone)) j) (stacks : AreStacked cone j.fate front new) (keeps : IsKeptOrUntold m (min word (shown_code m cone)) j kept kept') where
   on_top : Contains stack cone
   on_top = subst (λ (s : List ShownCone). Contains s cone) (sym popped) (Contains-push front cone)
 

@@ -1,4 +1,5 @@
-//! A search depth first: each cone is taken from a stack and judged, and a split cone's children are put back.
+//! A search depth first: the cone on top of a stack is judged where it stands. A split one becomes its child 1, with its
+//! child 0 above, and any other is taken away.
 
 ghost use Rattle.std.specs.Prelude.{◌≡◌, ◌≤◌, ◌<◌, [], IfOk, OnOk, length, vec_len};
 ghost use Rattle.symmetric_matrix.specs.Symmetric.{entry};
@@ -6,9 +7,9 @@ ghost use Rattle.unimodular_cone.specs.Cones.{unit_vectors, Fits};
 ghost use Rattle.unimodular_cone.specs.Answer.{IsNarrow};
 ghost use Rattle.unimodular_cone.specs.Shown.{IsConeAt, IsWithinLimits};
 ghost use Rattle.search_core.specs.Fair.{IsFairPart};
-ghost use Rattle.serial_search.specs.Turns.{SplitsAt, AreStacked};
+ghost use Rattle.serial_search.specs.Turns.{CanSplitTop, IsTopSplit, TopSplits, IsTopTurned};
 
-use search_core::{Fate, Judged, code, fitting_child, judgement, keep, start_word};
+use search_core::{Fate, Judged, keep, lowering_judgement, start_word};
 use std::alloc::{AllocError, Global};
 use symmetric_matrix::SymInt;
 use unimodular_cone::{Cone, Mode};
@@ -20,15 +21,32 @@ pub struct Judgements {
     pub final_word: u64,
 }
 
-/// Puts the children of a split cone on the stack, child 0 last. Any other fate leaves the stack as it was.
-fn push_children(stack: &mut Vec<Cone>, cone: &Cone, fate: &Fate) -> Result<(), AllocError>
-    requires splits { SplitsAt cone.now fate.now }
-    ensures { OnOk result (AreStacked cone.now fate.now stack.old.items stack.new.items) }
+/// Makes the cone on top of the stack its child 1, and puts its child 0 above, on the sides of the generators i and j, which
+/// count from 1.
+fn split(stack: &mut Vec<Cone>, i: u8, j: u8) -> Result<(), AllocError>
+    requires some { 0 < vec_len stack.old }
+    requires splits { CanSplitTop stack.old.items i j }
+    ensures { OnOk result (IsTopSplit stack.old.items i j stack.new.items) }
+{
+    stack.reserve(1)?;
+    let top = stack.len() - 1;
+    let above = stack[top].copy();
+    stack.push_reserved(above);
+    stack[top].step(i, j, 1);
+    stack[top + 1].step(i, j, 0);
+    Ok(())
+}
+
+/// Puts the children of a split cone in its place on top of the stack, child 0 last. A cone of any other fate is taken away.
+fn turn(stack: &mut Vec<Cone>, fate: &Fate) -> Result<(), AllocError>
+    requires some { 0 < vec_len stack.old }
+    requires splits { TopSplits fate.now stack.old.items }
+    ensures { OnOk result (IsTopTurned fate.now stack.old.items stack.new.items) }
 {
     if let Fate::Split { i, j, .. } = *fate {
-        stack.push(fitting_child(cone, i, j, 1))?;
-        stack.push(fitting_child(cone, i, j, 0))?;
+        return split(stack, i, j);
     }
+    stack.truncate(stack.len() - 1);
     Ok(())
 }
 
@@ -50,11 +68,11 @@ pub fn search(
     stack.push(root)?;
     let mut judged = Vec::new(alloc);
     let mut word = start_word(mode, q);
-    while let Some(cone) = stack.pop() {
-        word = word.min(code(mode, &cone));
-        let j = judgement(mode, &cone, limit, word);
-        push_children(&mut stack, &cone, &j.fate)?;
+    while let Some(cone) = stack.last() {
+        let j = lowering_judgement(mode, cone, limit, &mut word);
+        let fate = j.fate;
         keep(&mut judged, mode, j, word)?;
+        turn(&mut stack, &fate)?;
     }
     Ok(Judgements {
         judged,

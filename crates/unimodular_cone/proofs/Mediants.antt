@@ -6,7 +6,7 @@ use Rattle.std.proofs.lemmas.Int.{ints, to_z-of_z}
 use Rattle.exact_forms.proofs.Slacks.{same_or_not}
 use Rattle.unimodular_cone.specs.Cones.{child_gram}
 use Rattle.unimodular_cone.specs.Shown.{ShownCone, shown_gram, IsWithinLimits}
-use Rattle.unimodular_cone.specs.Mediant.{IsRowOf}
+use Rattle.unimodular_cone.specs.Mediant.{AreProducts, IsRowOf}
 use Rattle.unimodular_cone.proofs.Additions.{child_gram_row, child_gram_square}
 use Rattle.unimodular_cone.proofs.ShownLaws.{gram_within}
 
@@ -40,12 +40,6 @@ read_fits x y a b e f h k = rw (e, f, to_z-of_z w128 a (small_fits a h), to_z-of
 
 pub read_sum : (x y a b : ℤ) → x ≡ a → y ≡ b → nat_abs a ≤ 2 ^ 101 → nat_abs b ≤ 2 ^ 101 → to_z w128 (of_z w128 (to_z w128 (of_z w128 x) +ℤ to_z w128 (of_z w128 y))) ≡ a +ℤ b
 read_sum x y a b e f h k = rw (e, f, to_z-of_z w128 a (small_fits a h), to_z-of_z w128 b (small_fits b k)) (to_z-of_z w128 (a +ℤ b) (sum_fits a b h k))
-
-abbrev pub AreProducts : ShownCone → ℕ → ℕ → List ℤ → Type 0
-AreProducts c r s row = (k : ℕ) → k < c.size → slice_index_or row k (pos 0) ≡ shown_gram c r k +ℤ shown_gram c s k
-
-pub sized : (c : ShownCone) (r s n : ℕ) (row : List ℤ) → n ≡ c.size → ((k : ℕ) → k < n → slice_index_or row k (pos 0) ≡ shown_gram c r k +ℤ shown_gram c s k) → AreProducts c r s row
-sized c r s n row e h k l = h k (omega arith)
 
 pub product_small : (c : ShownCone) (r s k : ℕ) → IsWithinLimits c → r < c.size → s < c.size → k < c.size → nat_abs (shown_gram c r k +ℤ shown_gram c s k) ≤ 2 ^ 101
 product_small c r s k w lr ls lk = sum_small (shown_gram c r k) (shown_gram c s k) (gram_within c r k w lr lk) (gram_within c s k w ls lk)

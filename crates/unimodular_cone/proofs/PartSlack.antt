@@ -1,23 +1,14 @@
 -- A slack as a loop over the columns makes it.
-use Rattle.std.specs.Prelude.{◌≡◌, ◌≢◌, ℕ, ◌<◌, ◌≤◌, ◌+◌, ◌*◌, ◌^◌, ℤ, pos, negsuc, ◌+ℤ◌, ◌≤ℤ◌, ◌<ℤ◌, neg_ℤ, nat_abs, int_lt, true, false, FitsSigned, cond, eqb, ◌⊎◌}
+use Rattle.std.specs.Prelude.{◌≡◌, ◌≢◌, ℕ, ◌<◌, ◌≤◌, ◌+◌, ◌*◌, ◌^◌, ℤ, pos, negsuc, ◌+ℤ◌, ◌≤ℤ◌, ◌<ℤ◌, neg_ℤ, nat_abs, int_lt, true, false, FitsSigned, ◌⊎◌}
 use Rattle.std.specs.Int.{w128}
 use Rattle.std.proofs.Common.{arith, to_z, of_z, sym, ◌∙◌, ap, refl, inl, inr, subst}
 use Rattle.std.proofs.lemmas.Int.{ints, to_z-of_z}
 use Rattle.commutative_ring.proofs.Expand.{linear}
 use Rattle.exact_forms.specs.Sums.{sum_to}
 use Rattle.exact_forms.specs.Slacks.{shortfall, slack}
+use Rattle.unimodular_cone.specs.PartSlack.{beside, IsPartSlack}
 use Rattle.exact_forms.proofs.Sums.{sum_to-zero, sum_to_more}
 use Rattle.exact_forms.proofs.Slacks.{same_or_not, replaced_here, replaced_other}
-
--- the shortfalls beside the diagonal
-abbrev pub beside : (ℕ → ℕ → ℤ) → ℕ → ℕ → ℤ
-beside g i k = cond (eqb k i) (pos 0) (shortfall (g i k))
-
--- the first j columns are counted
-pub record IsPartSlack (g : ℕ → ℕ → ℤ) (i j : ℕ) (left : ℤ) : Type 0 where
-  pub value : left +ℤ sum_to j (beside g i) ≡ g i i
-  pub high : left ≤ℤ pos (2 ^ 100)
-  pub low : neg_ℤ (pos (2 ^ 100 * (j + 1))) ≤ℤ left
 
 pub part_start : (g : ℕ → ℕ → ℤ) (i : ℕ) → nat_abs (g i i) ≤ 2 ^ 100 → IsPartSlack g i 0 (g i i)
 part_start g i small = record {
@@ -86,6 +77,13 @@ is_not_negative y h = grind (arith, ints)
 -- a Gram entry that was read
 pub read_back : (z y : ℤ) → z ≡ y → nat_abs y ≤ 2 ^ 100 → to_z w128 (of_z w128 z) ≡ y
 read_back z y e small = let f : FitsSigned w128 z = omega (arith, ints) in to_z-of_z w128 z f ∙ e
+
+pub part_back : (g : ℕ → ℕ → ℤ) (i j : ℕ) (left : ℤ) → IsPartSlack g i j left → j ≤ 8 → to_z w128 (of_z w128 left) ≡ left
+part_back g i j left p few =
+    let h : left ≤ℤ pos (2 ^ 100) = p.high in
+    let l : neg_ℤ (pos (2 ^ 100 * (j + 1))) ≤ℤ left = p.low in
+    let f : FitsSigned w128 left = omega (arith, ints) in
+    to_z-of_z w128 left f
 
 pub part_added_read : (g : ℕ → ℕ → ℤ) (i j : ℕ) (left y z : ℤ) → IsPartSlack g i j left → j < 8 → y ≡ g i j → nat_abs (g i j) ≤ 2 ^ 100 → j ≢ i → int_lt y (pos 0) ≡ true
     → z ≡ to_z w128 (of_z w128 (left +ℤ y)) → IsPartSlack g i (j + 1) z

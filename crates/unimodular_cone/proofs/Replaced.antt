@@ -17,7 +17,7 @@ use Rattle.unimodular_cone.proofs.ShownLaws.{shown_gram_mirror}
 
 module _ (a : Inside) (r s at : ℕ) (path : Path) (xs : List ℕ) (row new : List ℤ) (lr : r < a.n) (ls : s < a.n)
     (hx : IsMediantOf (shown_of a) r s xs) (hrow : IsRowOf (shown_of a) r s row) (set : IsRowSet a.n r a.gram row new) (room : r < length a.generators) (here : at ≡ r) where
-  abbrev made : Inside
+  abbrev pub made : Inside
   made = record { n = a.n; path = path; gram = new; generators = slice_set a.generators at xs }
 
   coordinate_made : (k p : ℕ) → k < a.n → p < a.n → shown_generators (shown_of made) k p ≡ child (shown_generators (shown_of a)) r s k p

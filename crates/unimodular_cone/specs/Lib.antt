@@ -4,6 +4,7 @@ pub mod Tree
 pub mod Answer
 pub mod PackedDigits
 pub mod BestPair
+pub mod PartSlack
 pub mod ConeFields
 pub mod Replacement
 pub mod RootNumbers

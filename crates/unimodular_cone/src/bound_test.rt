@@ -1,8 +1,9 @@
 //! The bound test of a cone: its slacks and its least value.
 
-ghost use Rattle.std.specs.Prelude.{◌≡◌, ◌≤◌, ◌<◌, ◌^◌, ◌-◌, ◌↔◌, IsTrue, pos, ◌≤ℤ◌, neg_ℤ, nat_abs, ℕ};
+ghost use Rattle.std.specs.Prelude.{◌≡◌, ◌≢◌, ◌≤◌, ◌<◌, ◌^◌, ◌-◌, ◌↔◌, IsTrue, pos, ◌≤ℤ◌, neg_ℤ, nat_abs, ℕ};
 ghost use Rattle.exact_forms.specs.Slacks.{slack, IsClosed};
 ghost use Rattle.unimodular_cone.specs.Shown.{shown_gram, IsWithinLimits};
+ghost use Rattle.unimodular_cone.specs.PartSlack.{IsPartSlack};
 ghost use Rattle.unimodular_cone.specs.Answer.{IsLeastDiagonal};
 
 use crate::cone_read::ConeRead;
@@ -17,6 +18,26 @@ pub fn entry<C: ConeRead>(c: &C, row: u8, column: u8) -> i128
     c.gram(row + 1, column + 1)
 }
 
+/// What is left of a slack after some columns, none of them the diagonal's, where this is left before them.
+fn left_after<C: ConeRead>(c: &C, i: u8, first: u8, end: u8, before: i128) -> i128
+    requires fits { IsWithinLimits (C.cone c.now) }
+    requires range { i < (C.cone c.now).size }
+    requires columns { end ≤ (C.cone c.now).size }
+    requires order { first ≤ end }
+    requires beside { (j : ℕ) → first ≤ j → j < end → j ≢ i }
+    requires part { IsPartSlack (shown_gram (C.cone c.now)) i first before }
+    ensures { IsPartSlack (shown_gram (C.cone c.now)) i end result }
+{
+    let mut left = before;
+    for j in first..end {
+        let beside = entry(c, i, j);
+        if beside < 0 {
+            left += beside;
+        }
+    }
+    left
+}
+
 /// The slack of a generator that counts from 0: its value less the shortfalls of the negative entries beside it.
 fn slack_of<C: ConeRead>(c: &C, i: u8, n: u8) -> i128
     requires fits { IsWithinLimits (C.cone c.now) }
@@ -24,14 +45,8 @@ fn slack_of<C: ConeRead>(c: &C, i: u8, n: u8) -> i128
     requires range { i < n }
     ensures { result ≡ slack n (shown_gram (C.cone c.now)) i }
 {
-    let mut left = entry(c, i, i);
-    for j in 0..n {
-        let beside = entry(c, i, j);
-        if j != i && beside < 0 {
-            left += beside;
-        }
-    }
-    left
+    let left = left_after(c, i, 0, i, entry(c, i, i));
+    left_after(c, i, i + 1, n, left)
 }
 
 /// Whether every slack is at least b. Then each nonzero combination of the generators with nonnegative integer

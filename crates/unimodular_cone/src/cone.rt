@@ -1,8 +1,9 @@
 //! Cones that keep their numbers inline.
 
-ghost use Rattle.std.specs.Prelude.{◌≡◌, ◌≢◌, ◌≤◌, ◌<◌, ◌-◌, [], length, nat_eq, None, IfOk, IfErr};
+ghost use Rattle.std.specs.Prelude.{◌≡◌, ◌≢◌, ◌≤◌, ◌<◌, ◌-◌, [], ◌∷◌, ◌++◌, length, nat_eq, None, IfOk, IfErr};
 ghost use Rattle.symmetric_matrix.specs.Symmetric.{entry};
-ghost use Rattle.unimodular_cone.specs.Shown.{IsWithinLimits, IsConeAt, IsChild, IsFirstWide, IsFirstWideAt, IsReachable, IsWideWhere, NamesPair, ReachesChild, IsNext, IsFirstWideNext};
+ghost use Rattle.unimodular_cone.specs.Mediant.{FitsWith};
+ghost use Rattle.unimodular_cone.specs.Shown.{FitsOnSide, shown_gram, IsWithinLimits, IsConeAt, IsChild, IsFirstWide, IsFirstWideAt, IsReachable, IsWideWhere, NamesPair, ReachesChild, IsNext, IsFirstWideNext};
 ghost use Rattle.unimodular_cone.specs.Replacement.{IsChildWith, IsFirstWideWith, IsRowSet};
 
 use crate::cone_read::ConeRead;
@@ -38,6 +39,69 @@ impl Model for Cone {
     ghost invariant = { IsCone };
 }
 
+impl Cone {
+    /// The same cone again. It takes no memory.
+    pub fn copy(&self) -> Cone
+        ensures { result ≡ self.now }
+    {
+        Cone {
+            n: self.n,
+            path: self.path,
+            gram: self.gram,
+            generators: self.generators,
+        }
+    }
+
+    /// Goes down to the child on a side of the generators i and j, which count from 1: child 0 has v_i + v_j in the place of
+    /// v_i, and child 1 has it in the place of v_j. No entry of that child is to be over its limit.
+    ///
+    /// It changes this cone's numbers in place, by additions, and takes no memory.
+    pub fn step(&mut self, i: u8, j: u8, side: u8)
+        requires first { 1 ≤ i }
+        requires order { i < j }
+        requires last { j ≤ self.old.size }
+        requires digit { side < 2 }
+        requires room { length self.old.path < 200 }
+        requires fits { FitsOnSide self.old (i - 1) (j - 1) (nat_eq side 1) }
+        ensures { IsChild self.old (i - 1) (j - 1) (nat_eq side 1) self.new }
+    {
+        if side == 0 {
+            self.replace(i - 1, j - 1, side);
+        } else {
+            self.replace(j - 1, i - 1, side);
+        }
+    }
+
+    /// A Gram entry, in either triangle, at a row and a column that count from 0.
+    fn entry(&self, row: u8, column: u8) -> i128
+        requires row_in_range { row < self.now.size }
+        requires column_in_range { column < self.now.size }
+        ensures { result ≡ shown_gram self.now row column }
+    {
+        if row < column {
+            return self.gram[place_of(column, row)];
+        }
+        self.gram[place_of(row, column)]
+    }
+
+    /// Puts the mediant of r and s in the place of r, and a digit at the path's end. No entry of that child is over its limit.
+    fn replace(&mut self, r: u8, s: u8, side: u8)
+        requires first { r < self.old.size }
+        requires second { s < self.old.size }
+        requires apart { r ≢ s }
+        requires digit { side < 2 }
+        requires room { length self.old.path < 200 }
+        requires fits { FitsWith self.old r s }
+        ensures { IsChildWith self.old r s (self.old.path ++ nat_eq side 1 ∷ []) self.new }
+    {
+        let coordinates = mediant_coordinates(self, r, s);
+        let row = mediant_row(self, r, s);
+        self.path.push(side);
+        self.generators[usize::from(r)] = coordinates;
+        set_row(&mut self.gram, &row, r, self.n);
+    }
+}
+
 impl ConeRead for Cone {
     ghost cone = { λ c. c };
 
@@ -50,8 +114,7 @@ impl ConeRead for Cone {
     }
 
     fn gram(&self, row: u8, column: u8) -> i128 {
-        let gram = &self.gram;
-        gram[place_of(row.max(column) - 1, row.min(column) - 1)]
+        self.entry(row - 1, column - 1)
     }
 
     fn coordinate(&self, generator: u8, place: u8) -> u64 {

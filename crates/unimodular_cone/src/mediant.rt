@@ -2,7 +2,7 @@
 
 ghost use Rattle.std.specs.Prelude.{◌≡◌, ◌≢◌, ◌≤◌, ◌<◌, ◌-◌, ◌+ℤ◌, ◌^◌, ℕ, pos, nat_abs, MatchOption, length, slice_index_or};
 ghost use Rattle.unimodular_cone.specs.Shown.{shown_gram, shown_coordinate, IsWithinLimits, FitsOnBothSides, IsFirstWideBelow};
-ghost use Rattle.unimodular_cone.specs.Mediant.{IsMediantOf, IsRowOf, IsFirstBelow, wide_gram, FitsWith, IsFirstOverWith};
+ghost use Rattle.unimodular_cone.specs.Mediant.{IsMediantOf, AreProducts, IsRowOf, IsFirstBelow, wide_gram, FitsWith, IsFirstOverWith};
 
 use crate::bound_test::entry;
 use crate::cone_read::ConeRead;
@@ -38,13 +38,27 @@ fn products<C: ConeRead>(c: &C, r: u8, s: u8, n: u8) -> [i128; 8]
     requires size { n ≡ (C.cone c.now).size }
     requires first { r < n }
     requires second { s < n }
-    ensures { (k : ℕ) → k < n → slice_index_or result k (pos 0) ≡ shown_gram (C.cone c.now) r k +ℤ shown_gram (C.cone c.now) s k }
+    ensures { AreProducts (C.cone c.now) r s result }
 {
     let mut sums = [0; 8];
     for k in 0..n {
         sums[usize::from(k)] = entry(c, r, k) + entry(c, s, k);
     }
     sums
+}
+
+/// The Gram entries of the child in which the mediant takes the place of generator r, in its row, from the mediant's products.
+fn row_of<C: ConeRead>(c: &C, products: &[i128; 8], r: u8, s: u8) -> [i128; 8]
+    requires first { r < (C.cone c.now).size }
+    requires second { s < (C.cone c.now).size }
+    requires apart { r ≢ s }
+    requires products { AreProducts (C.cone c.now) r s products.now }
+    ensures { IsRowOf (C.cone c.now) r s result }
+{
+    let _n = c.n();
+    let mut row = *products;
+    row[usize::from(r)] += row[usize::from(s)];
+    row
 }
 
 /// The Gram entries of the child in which the mediant takes the place of generator r, in its row.
@@ -54,10 +68,7 @@ pub fn mediant_row<C: ConeRead>(c: &C, r: u8, s: u8) -> [i128; 8]
     requires apart { r ≢ s }
     ensures { IsRowOf (C.cone c.now) r s result }
 {
-    let n = c.n();
-    let mut row = products(c, r, s, n);
-    row[usize::from(r)] += row[usize::from(s)];
-    row
+    row_of(c, &products(c, r, s, c.n()), r, s)
 }
 
 /// The first of n coordinates that is over its limit.
@@ -135,13 +146,15 @@ pub fn children_fit<C: ConeRead>(c: &C, i: u8, j: u8) -> Option<WideAt>
     ensures { MatchOption result (FitsOnBothSides (C.cone c.now) (i - 1) (j - 1)) (IsFirstWideBelow (C.cone c.now) (i - 1) (j - 1)) }
 {
     let (first, second) = (i - 1, j - 1);
-    if let Some(entry) = wide_on(c, first, second) {
+    let coordinates = mediant_coordinates(c, first, second);
+    let products = products(c, first, second, c.n());
+    if let Some(entry) = wide_on(c, &coordinates, &products, first, second) {
         return Some(WideAt {
             path: c.path().child(0),
             entry,
         });
     }
-    match wide_on(c, second, first) {
+    match wide_on(c, &coordinates, &products, second, first) {
         Some(entry) => Some(WideAt {
             path: c.path().child(1),
             entry,
@@ -151,17 +164,19 @@ pub fn children_fit<C: ConeRead>(c: &C, i: u8, j: u8) -> Option<WideAt>
 }
 
 /// The first entry over its limit in the child in which the mediant of r and s takes the place of r.
-fn wide_on<C: ConeRead>(c: &C, r: u8, s: u8) -> Option<WideEntry>
+fn wide_on<C: ConeRead>(
+    c: &C,
+    coordinates: &[u64; 8],
+    products: &[i128; 8],
+    r: u8,
+    s: u8,
+) -> Option<WideEntry>
     requires first { r < (C.cone c.now).size }
     requires second { s < (C.cone c.now).size }
     requires apart { r ≢ s }
+    requires coordinates { IsMediantOf (C.cone c.now) r s coordinates.now }
+    requires products { AreProducts (C.cone c.now) r s products.now }
     ensures { MatchOption result (FitsWith (C.cone c.now) r s) (IsFirstOverWith (C.cone c.now) r s) }
 {
-    first_wide(
-        c,
-        &mediant_coordinates(c, r, s),
-        &mediant_row(c, r, s),
-        r,
-        s,
-    )
+    first_wide(c, coordinates, &row_of(c, products, r, s), r, s)
 }

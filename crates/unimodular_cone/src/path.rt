@@ -66,6 +66,17 @@ impl Path {
         }
     }
 
+    /// Puts one more digit at the end of this path.
+    pub fn push(&mut self, side: u8)
+        requires room { length self.old < 200 }
+        requires digit { side < 2 }
+        ensures { self.new ≡ self.old ++ nat_eq side 1 ∷ [] }
+    {
+        // The digit past the end was 0.
+        self.words[usize::from(self.len / 64)] += u64::from(side) << (63 - self.len % 64);
+        self.len += 1;
+    }
+
     /// The digit at an index, from 0.
     pub fn digit(&self, k: u8) -> u8
         requires { k < length self.now }

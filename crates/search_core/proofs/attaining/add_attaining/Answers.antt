@@ -2,9 +2,8 @@ use Rattle.std.specs.Prelude.{◌≡◌, ◌+◌, ◌-◌, ℕ, pos, FitsSigned}
 use Rattle.std.specs.Int.{w128}
 use Rattle.std.proofs.Common.{arith, sym, ◌∙◌, ap, subst, of_z}
 use Rattle.std.proofs.lemmas.Int.{ints}
-use Rattle.std.specs.BTreeSet.{BTreeSet}
 use Rattle.unimodular_cone.specs.Shown.{shown_gram}
-use Rattle.search_core.specs.Attaining.{IsKeyOf, AddsAttaining}
+use Rattle.search_core.specs.Attaining.{IsKeyOf}
 use Rattle.search_core.proofs.Keys.{one_added, none_more}
 use Rattle.search_core.proofs.WaysDown.{same_when_read}
 use Rattle.search_core.proofs.attaining.add_attaining.Goals as goal

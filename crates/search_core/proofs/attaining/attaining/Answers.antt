@@ -1,5 +1,4 @@
 use Rattle.std.specs.Prelude.{pos}
-use Rattle.std.proofs.Common.{arith}
 use Rattle.symmetric_matrix.specs.Symmetric.{entry}
 use Rattle.search_core.specs.Attaining.{IsVectorsOf, ListsGenerators}
 use Rattle.search_core.proofs.Keys.{are_keys, lists_generators, if_ok}

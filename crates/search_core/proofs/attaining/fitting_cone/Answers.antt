@@ -1,9 +1,21 @@
+use Rattle.std.specs.Prelude.{ℕ, take, nat_eq}
+use Rattle.std.proofs.Common.{arith, subst}
+use Rattle.std.proofs.lemmas.List.{take_all}
 use Rattle.symmetric_matrix.specs.Symmetric.{entry}
-use Rattle.search_core.proofs.WaysDown.{reachable, path_not_wide}
+use Rattle.unimodular_cone.specs.Paths.{Path}
+use Rattle.unimodular_cone.specs.Shown.{IsNext, IsConeAt}
+use Rattle.unimodular_cone.proofs.Orders.{take_is_above}
+use Rattle.search_core.proofs.ShownFates.{splits_as_shown}
+use Rattle.search_core.proofs.WaysDown.{way_more}
 use Rattle.search_core.proofs.attaining.fitting_cone.Goals as goal
 
-pub at_path-requires : goal.at_path-requires
-at_path-requires c = reachable c.args.q.now.size (entry c.args.q.now) c.args.limit c.args.path.now c.requires.fits c.requires.in_tree
+pub step_down-requires-clause-splits : goal.step_down-requires-clause-splits
+step_down-requires-clause-splits c = splits_as_shown c.args.q.now.size (entry c.args.q.now) (take c.loop-k.k c.args.path.now) c.loop-k.cone c.loop-k.invariant
+    (c.requires.in_tree.above (take c.loop-k.k c.args.path.now) (take_is_above c.args.path.now c.loop-k.k (omega arith)))
 
-pub unreachable-requires : goal.unreachable-requires
-unreachable-requires c = path_not_wide c.args.q.now.size (entry c.args.q.now) c.args.limit c.args.path.now c.in-Err.field-0 c.requires.fits c.requires.in_tree c.in-Err.ensures.wide
+pub loop-k-preserved : goal.loop-k-preserved
+loop-k-preserved c = way_more c.args.q.now.size (entry c.args.q.now) c.args.path.now c.loop-k.k c.loop-k.cone c.step_down.new.c (omega arith) c.loop-k.invariant
+    (subst (λ (d : ℕ). IsNext c.loop-k.cone (nat_eq d 1) c.step_down.new.c) c.digit.ensures c.step_down.ensures)
+
+pub returns : goal.returns
+returns c = subst (λ (p : Path). IsConeAt c.args.q.now.size (entry c.args.q.now) p c.loop-k.cone) (take_all c.loop-k.k c.args.path.now (omega arith)) c.loop-k.invariant

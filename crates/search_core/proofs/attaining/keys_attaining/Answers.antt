@@ -1,13 +1,11 @@
-use Rattle.std.specs.Prelude.{◌≡◌, ◌+◌, ◌∷◌, ◌++◌, [], ℕ, pos, FitsSigned, take, List}
+use Rattle.std.specs.Prelude.{ℕ, pos, take, List}
 use Rattle.std.specs.Int.{w128}
-use Rattle.std.proofs.Common.{arith, sym, ◌∙◌, ap, subst, of_z}
-use Rattle.std.proofs.lemmas.Int.{ints}
+use Rattle.std.proofs.Common.{sym, ◌∙◌, ap, subst, of_z}
 use Rattle.symmetric_matrix.specs.Symmetric.{entry}
 use Rattle.search_core.specs.Fair.{Judged}
 use Rattle.search_core.specs.Attaining.{HasGenerators, AddsAttaining}
 use Rattle.search_core.proofs.Firsts.{more_judged}
 use Rattle.search_core.proofs.Keys.{has_more, has_same}
-use Rattle.search_core.proofs.WaysDown.{same_when_read}
 use Rattle.search_core.proofs.attaining.keys_attaining.Goals as goal
 use Rattle.search_core.proofs.attaining.keys_attaining.Goals.{then-j-from+in_ok-add_attaining, else-j-from}
 

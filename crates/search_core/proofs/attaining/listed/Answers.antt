@@ -1,6 +1,6 @@
 use Rattle.std.specs.Prelude.{◌≡◌, ◌<◌, ◌↔◌, ℕ, Bool, true, false, List, [], ◌∷◌, length}
 use Rattle.std.proofs.Common.{arith, refl, sym, ◌∙◌}
-use Rattle.search_core.proofs.Keys.{listing_start, key_of_x, follows, listing_more, listing_end}
+use Rattle.search_core.proofs.Keys.{key_of_x, follows, listing_more, listing_end}
 use Rattle.search_core.proofs.attaining.listed.Goals as goal
 
 pub vector_of-requires-clause-small : goal.vector_of-requires-clause-small

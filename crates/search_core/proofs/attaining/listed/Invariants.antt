@@ -1,4 +1,4 @@
-use Rattle.std.proofs.Common.{ℕ, length}
+use Rattle.std.proofs.Common.{length}
 use Rattle.search_core.proofs.Keys.{IsListing}
 use Rattle.search_core.proofs.attaining.listed.Given as goal
 

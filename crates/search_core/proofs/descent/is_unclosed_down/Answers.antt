@@ -16,15 +16,15 @@ returns-then-closed c = (
       (rw (read_bound c.args.bound c.requires.low c.requires.high) at (c.if-closed.ensures.0 refl))) u),
 )
 
-pub next_cone-cone-requires-clause-splits : goal.next_cone-cone-requires-clause-splits
-next_cone-cone-requires-clause-splits c = splits_as_shown c.args.q.now.size (entry c.args.q.now) (take c.loop-k.k c.args.path.now) c.loop-k.cone c.loop-k.invariant.at_path
+pub step_down-requires-clause-splits : goal.step_down-requires-clause-splits
+step_down-requires-clause-splits c = splits_as_shown c.args.q.now.size (entry c.args.q.now) (take c.loop-k.k c.args.path.now) c.loop-k.cone c.loop-k.invariant.at_path
     (c.requires.in_tree.above (take c.loop-k.k c.args.path.now) (take_is_above c.args.path.now c.loop-k.k (omega arith)))
 
 pub loop-k-preserved : goal.loop-k-preserved
 loop-k-preserved c =
-    rw (read_bound c.args.bound c.requires.low c.requires.high) (down_more c.args.q.now.size (entry c.args.q.now) c.args.bound c.args.path.now c.loop-k.k c.loop-k.cone c.next_cone-cone.result (omega arith) (rw (read_bound c.args.bound c.requires.low c.requires.high) at c.loop-k.invariant)
+    rw (read_bound c.args.bound c.requires.low c.requires.high) (down_more c.args.q.now.size (entry c.args.q.now) c.args.bound c.args.path.now c.loop-k.k c.loop-k.cone c.step_down.new.c (omega arith) (rw (read_bound c.args.bound c.requires.low c.requires.high) at c.loop-k.invariant)
     (λ closed. when_false ⊥ ((rw (read_bound c.args.bound c.requires.low c.requires.high) at c.if-closed.ensures).1 (closed_there c.args.q.now.size (entry c.args.q.now) (take c.loop-k.k c.args.path.now) c.loop-k.cone c.loop-k.invariant.at_path c.args.bound closed)))
-    (subst (λ (d : ℕ). IsNext c.loop-k.cone (nat_eq d 1) c.next_cone-cone.result) c.digit.ensures c.next_cone-cone.ensures))
+    (subst (λ (d : ℕ). IsNext c.loop-k.cone (nat_eq d 1) c.step_down.new.c) c.digit.ensures c.step_down.ensures))
 
 pub returns : goal.returns
 returns c = not_test c.closed-2.result _ _ (rw (read_bound c.args.bound c.requires.low c.requires.high) at c.closed-2.ensures)

@@ -1,8 +1,3 @@
-use Rattle.std.specs.Bool.{MatchBool}
-use Rattle.std.proofs.Common.{◌∙◌, ap, subst, sym}
-use Rattle.std.specs.Prelude.{Bool}
-use Rattle.std.specs.Ordering.{is_lt}
-use Rattle.unimodular_cone.specs.Paths.{IsNoLater}
 use Rattle.search_core.proofs.Firsts.{earlier_is}
 use Rattle.search_core.proofs.scan.comes_first.Goals as goal
 

@@ -1,8 +1,6 @@
 use Rattle.std.proofs.Common.{arith, inl, inr, refl}
-use Rattle.std.specs.Prelude.{Option, Some, take, ◌+◌}
-use Rattle.search_core.specs.Fair.{Judged}
-use Rattle.search_core.specs.Scans.{IsLowOf, FindsFirst}
-use Rattle.search_core.proofs.Firsts.{first_kept, first_found, first_none, first_whole}
+use Rattle.search_core.specs.Scans.{IsLowOf}
+use Rattle.search_core.proofs.Firsts.{first_kept, first_found, first_whole}
 use Rattle.search_core.proofs.WaysDown.{when_false}
 use Rattle.search_core.proofs.scan.first_low.Goals as goal
 use Rattle.search_core.proofs.scan.first_low.Goals.{then-is_low_of+then-comes_first, else-is_low_of, else-is_low_of-via-then-is_low_of+else-comes_first, else-is_low_of-via-else-is_low_of}

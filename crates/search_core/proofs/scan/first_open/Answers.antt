@@ -1,7 +1,7 @@
 use Rattle.std.specs.Prelude.{pos}
 use Rattle.std.proofs.Common.{arith, inl, inr, refl, sym}
 use Rattle.symmetric_matrix.specs.Symmetric.{entry}
-use Rattle.search_core.specs.Scans.{IsOpenEnd, FindsFirst}
+use Rattle.search_core.specs.Scans.{IsOpenEnd}
 use Rattle.search_core.proofs.Firsts.{first_kept, first_found, first_whole}
 use Rattle.search_core.proofs.WaysDown.{when_false}
 use Rattle.search_core.proofs.scan.first_open.Goals as goal

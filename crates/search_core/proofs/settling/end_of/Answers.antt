@@ -1,4 +1,3 @@
-use Rattle.std.proofs.Common.{arith}
 use Rattle.symmetric_matrix.specs.Symmetric.{entry}
 use Rattle.search_core.proofs.Mirrors.{entry_symmetric}
 use Rattle.search_core.proofs.Parts.{part_in_tree, named_end}

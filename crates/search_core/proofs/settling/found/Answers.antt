@@ -1,4 +1,4 @@
-use Rattle.std.specs.Prelude.{◌≡◌, ◌<◌, ℕ, ℤ, pos, FitsSigned}
+use Rattle.std.specs.Prelude.{◌≡◌, ℤ, FitsSigned}
 use Rattle.std.specs.Int.{w128}
 use Rattle.std.proofs.Common.{arith, sym, ◌∙◌, subst, to_z, of_z}
 use Rattle.std.proofs.lemmas.Int.{ints, to_z-of_z}

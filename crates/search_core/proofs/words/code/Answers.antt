@@ -1,4 +1,4 @@
-use Rattle.std.specs.Prelude.{FitsSigned, ◌≤◌, ◌<◌, length}
+use Rattle.std.specs.Prelude.{FitsSigned, ◌<◌, length}
 use Rattle.std.proofs.Common.{◌∙◌, ap, ap₂, arith}
 use Rattle.std.proofs.lemmas.Int.{ints, to_z-of_z}
 use Rattle.std.specs.Int.{w128}

@@ -1,5 +1,5 @@
 use Rattle.std.proofs.Common.{◌∙◌, ap, arith}
-use Rattle.std.specs.Prelude.{FitsSigned, ℕ, ◌≤◌, ◌<◌}
+use Rattle.std.specs.Prelude.{FitsSigned, ◌<◌}
 use Rattle.std.proofs.lemmas.Int.{ints, to_z-of_z}
 use Rattle.std.specs.Int.{w128}
 use Rattle.symmetric_matrix.specs.Symmetric.{entry}

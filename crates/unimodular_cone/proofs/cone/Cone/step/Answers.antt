@@ -1,0 +1,12 @@
+use Rattle.std.specs.Prelude.{◌≡◌, ◌-◌, ℕ, nat_eq}
+use Rattle.std.proofs.Common.{arith, subst}
+use Rattle.unimodular_cone.specs.Shown.{FitsOnSide}
+use Rattle.unimodular_cone.proofs.cone.Cone.step.Goals as goal
+
+pub replace-requires-clause-fits : goal.replace-requires-clause-fits
+replace-requires-clause-fits c = subst (λ (d : ℕ). FitsOnSide c.args.self.now (c.args.i - 1) (c.args.j - 1) (nat_eq d 1)) c.if-side-eq0.true c.requires.fits
+
+pub replace-requires-else-side-eq0-clause-fits : goal.replace-requires-else-side-eq0-clause-fits
+replace-requires-else-side-eq0-clause-fits c =
+    let one : c.args.side ≡ 1 = omega arith in
+    subst (λ (d : ℕ). FitsOnSide c.args.self.now (c.args.i - 1) (c.args.j - 1) (nat_eq d 1)) one c.requires.fits
