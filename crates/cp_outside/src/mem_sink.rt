@@ -1,6 +1,6 @@
 //! A sink in memory, for tests.
 
-ghost use Rattle.std.specs.Prelude.{◌≡◌, ◌≢◌, ℕ, ◌+◌, ◌≤◌, List, [], ◌∷◌, ◌++◌, Some, length, min, IfOk, OnOk, OnErr};
+ghost use Rattle.std.specs.Prelude.{◌≡◌, ◌≢◌, ◌≤◌, [], ◌∷◌, Some, IfOk, OnOk, OnErr};
 ghost use Rattle.cp_outside.specs.Faults.{RoseOrFull};
 ghost use Rattle.cp_outside.specs.Puts.{OnDone, OnPutFailed, OnPutOutOfMemory, UnlessPutOutOfMemory, appended, AppendsFront};
 ghost use Rattle.cp_outside.specs.Recordings.{next_call, next_keep, keep_of, piece, end_of, after_put, IsWithinRoom};

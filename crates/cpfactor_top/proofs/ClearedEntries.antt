@@ -1,5 +1,5 @@
 -- The entries of a matrix that was cleared of its denominators.
-use Rattle.std.specs.Prelude.{◌≡◌, ℕ, ◌<◌, ℤ, pos, nat_abs, ◌≤ℤ◌, List, Ok, Some, None}
+use Rattle.std.specs.Prelude.{◌≡◌, ℕ, ◌<◌, ℤ, pos, nat_abs, ◌≤ℤ◌, List, Ok, Option}
 use Rattle.std.proofs.Common.{sym, ap, ap₂, ◌∙◌, subst, arith}
 use Rattle.std.proofs.lemmas.Int.{ints}
 use Rattle.exact_forms.specs.Rational.{Rational, ratio, whole}
@@ -10,7 +10,7 @@ use Rattle.symmetric_matrix.specs.Symmetric.{Symmetric, entry}
 use Rattle.matrix_text.specs.RationalMatrix.{RationalMatrix, rational_entry}
 use Rattle.matrix_text.specs.Clearing.{is_placed_owed, clear_ops, cleared_of, least_denominator, IsCleared}
 use Rattle.cpfactor_top.specs.StartWeighing.{start_ops, is_weight_owed}
-use Rattle.cpfactor_top.specs.Solving.{IsClearable, IsWeighable, whole_of}
+use Rattle.cpfactor_top.specs.Given.{whole_of, IsClearable}
 use Rattle.cpfactor_top.specs.declared.start_weight.WideWeight.{WideWeight}
 use Rattle.symmetric_matrix.proofs.Owed.{none_of_ok}
 use Rattle.exact_forms.proofs.Triangles.{entry_in-map}
@@ -25,23 +25,18 @@ cleared_entry a s d is i j =
     ap₂ (λ (none : Rational) (xs : List Rational). entry_in none xs i j) (zero_over d is.denominator.positive) (sym is.entries)
     ∙ entry_in-map (λ (z : ℤ). ratio z d) (pos 0) s.lower i j
 
-pub is_weighable : (a : RationalMatrix) (s : Symmetric) (d : ℤ) → answer is_placed_owed (clear_ops a) (cleared_of a) ≡ Ok (s, d) → first_owed is_weight_owed (start_ops s) ≡ None → IsWeighable a
-is_weighable a s d h fits =
+-- what the weights of S owe is what those of A's own whole matrix do
+pub cleared_weights : (a : RationalMatrix) (s : Symmetric) (d : ℤ) (owed : Option WideWeight) → answer is_placed_owed (clear_ops a) (cleared_of a) ≡ Ok (s, d) → first_owed is_weight_owed (start_ops s) ≡ owed
+    → IsClearable a × (first_owed is_weight_owed (start_ops (whole_of a)) ≡ owed)
+cleared_weights a s d owed h is =
     let clear = none_of_ok is_placed_owed (clear_ops a) (cleared_of a) (s, d) h in
-    (clear.0, subst (λ (q : Symmetric). first_owed is_weight_owed (start_ops q) ≡ None) (sym (ap (λ (p : Symmetric × ℤ). p.0) clear.1)) fits)
-
-pub start_owed : (a : RationalMatrix) (s : Symmetric) (d : ℤ) (w : WideWeight) → answer is_placed_owed (clear_ops a) (cleared_of a) ≡ Ok (s, d) → first_owed is_weight_owed (start_ops s) ≡ Some w
-    → IsClearable a × (first_owed is_weight_owed (start_ops (whole_of a)) ≡ Some w)
-start_owed a s d w h owed =
-    let clear = none_of_ok is_placed_owed (clear_ops a) (cleared_of a) (s, d) h in
-    (clear.0, subst (λ (q : Symmetric). first_owed is_weight_owed (start_ops q) ≡ Some w) (sym (ap (λ (p : Symmetric × ℤ). p.0) clear.1)) owed)
-
-at_least_one : (n : ℕ) → 0 < n → pos 1 ≤ℤ pos n
-at_least_one n h = omega (arith, ints)
+    (clear.0, subst (λ (q : Symmetric). first_owed is_weight_owed (start_ops q) ≡ owed) (sym (ap (λ (p : Symmetric × ℤ). p.0) clear.1)) is)
 
 pub cleared_positive : (a : RationalMatrix) (s : Symmetric) (d : ℤ) → answer is_placed_owed (clear_ops a) (cleared_of a) ≡ Ok (s, d) → IsCleared a s (nat_abs d) → pos 1 ≤ℤ d
 unfolding cleared_of
 cleared_positive a s d h is =
     let clear = none_of_ok is_placed_owed (clear_ops a) (cleared_of a) (s, d) h in
     let known : pos (least_denominator a) ≡ d = ap (λ (p : Symmetric × ℤ). p.1) clear.1 in
-    subst (λ (z : ℤ). pos 1 ≤ℤ z) known (at_least_one (least_denominator a) (subst (λ (z : ℤ). 0 < nat_abs z) (sym known) is.denominator.positive))
+    let positive : 0 < least_denominator a = subst (λ (z : ℤ). 0 < nat_abs z) (sym known) is.denominator.positive in
+    let one : pos 1 ≤ℤ pos (least_denominator a) = omega (arith, ints) in
+    subst (λ (z : ℤ). pos 1 ≤ℤ z) known one

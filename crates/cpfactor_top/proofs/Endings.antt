@@ -4,7 +4,7 @@ use Rattle.std.proofs.Common.{inl, inr, subst, sym, refl}
 use Rattle.cpfactor_top.specs.declared.ended.Ended.{Ended}
 use Rattle.cpfactor_top.specs.Texts.{memory_text}
 use Rattle.cpfactor_top.specs.Ending.{HasStatus}
-use Rattle.cpfactor_top.specs.Endings.{Outlet, IsFrontWritten, IsWritten, GivesFront, EndsBy, IsOnly, IsNone}
+use Rattle.cpfactor_top.specs.Endings.{Outlet, IsFrontWritten, IsWritten, GivesFront, EndsBy, IsOnly}
 use Rattle.cpfactor_top.specs.Answers.{YieldsTo}
 
 -- ---- what holds of each answer may be replaced by what follows from it
@@ -27,7 +27,7 @@ module _ (old new : Ended → List ℕ → Type 0) (outlet : Outlet) (follows : 
   ends_by_follows e (inr (inl f)) = inr (inl (record { fault = f.fault; rose = f.rose; front = after_fault f.front }))
   ends_by_follows e (inr (inr m)) = inr (inr (record { memory = m.memory; front = after_memory m.front }))
 
--- ---- endings of one answer, and of none
+-- ---- endings of one answer
 pub ends_by_only : (answers : Ended → List ℕ → Type 0) (only : Ended) (text : List ℕ) (outlet : Outlet) (e : Ended) → answers only text → EndsBy (IsOnly only text) outlet e → EndsBy answers outlet e
 ends_by_only answers only text outlet e holds ends =
     ends_by_follows (IsOnly only text) answers outlet (λ c t is. subst (λ (d : Ended). answers d t) (sym is.0) (subst (λ (u : List ℕ). answers only u) (sym is.1) holds)) e ends
@@ -35,9 +35,6 @@ ends_by_only answers only text outlet e holds ends =
 -- the same ending and text in other words
 pub ends_by_same : (e f : Ended) (s t : List ℕ) (outlet : Outlet) (given : Ended) → e ≡ f → s ≡ t → EndsBy (IsOnly e s) outlet given → EndsBy (IsOnly f t) outlet given
 ends_by_same e f s t outlet given same text ends = ends_by_only (IsOnly f t) e s outlet given (same, text) ends
-
-pub ends_by_none : (answers : Ended → List ℕ → Type 0) (outlet : Outlet) (e : Ended) → EndsBy IsNone outlet e → EndsBy answers outlet e
-ends_by_none answers outlet e ends = ends_by_follows IsNone answers outlet (λ c t is. absurd is) e ends
 
 -- ---- where one ending alone is due, it is given
 pub ends_yield : (answers : Ended → List ℕ → Type 0) (outlet : Outlet) (due given : Ended) → ((text : List ℕ) → answers given text → given ≡ due) → EndsBy answers outlet given → YieldsTo due given

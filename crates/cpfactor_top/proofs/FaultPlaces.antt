@@ -12,6 +12,7 @@ use Rattle.std.specs.List.{list_any, list_all, range_with_len}
 use Rattle.std.specs.Str.Parse.{digits_value}
 use Rattle.std.specs.Str.{bytes_eq, all_ascii_digits}
 use Rattle.std.specs.Char.{is_ascii_digit}
+use Rattle.matrix_text.proofs.Squares.{find-none}
 use Rattle.cpfactor_top.specs.Reading.{Form, FileName, Number, OptionRow, is_option, is_numeral, has_form, has_wanted, is_new_option, word_at, option_named, wanted, is_plain, plain_before, can_be_read, first_unread, is_complete, place_or_missing, fault_place}
 
 -- ---- counting
@@ -205,18 +206,6 @@ found_first p a (suc n) k found = elim (cases_Bool (p a)) [
       )
 ]
 
-pub found_none : (p : ℕ → Bool) (a n : ℕ) → find p (range_with_len a n) ≡ None → (j : ℕ) → a ≤ j → j < a + n → p j ≡ false
-found_none p a zero found j le lt = absurd (omega arith)
-found_none p a (suc n) found j le lt = elim (cases_Bool (p a)) [
-  | inl here ↦ let e : Some a ≡ None = rw here at found in absurd (cc)
-  | inr no' ↦
-      let later : find p (range_with_len (a + 1) n) ≡ None = rw no' at found in
-      elim (cases_eq j a) [
-        | inl e ↦ rw e no'
-        | inr ne ↦ found_none p (a + 1) n later j (omega arith) (omega arith)
-      ]
-]
-
 -- words that can be read are at most all plain arguments, all options and their values
 pub read-le : (plain : List Form) (options : List OptionRow) (words : List (List ℕ)) (k : ℕ) → list_all (λ o. is_option o.name) options ≡ true → k ≤ length words → ((j : ℕ) → j < k → can_be_read plain options words j ≡ true) → k ≤ length plain + 2 * length options
 read-le plain options words k named le fits =
@@ -239,5 +228,5 @@ fault_place-le plain options words k named fault = by_first (first_unread plain 
         let same : j ≡ k = cc in
         subst (λ i. i ≤ length plain + 2 * length options) same near
     by_first None is e =
-        let near = read-le plain options words (length words) named (omega arith) (λ i lt. not-false _ (found_none (λ i. not (can_be_read plain options words i)) 0 (length words) is i (omega arith) (omega (arith, lt)))) in
+        let near = read-le plain options words (length words) named (omega arith) (λ i lt. not-false _ (find-none (λ i. not (can_be_read plain options words i)) 0 (length words) is i (omega arith) (omega (arith, lt)))) in
         at_end (is_complete plain options words) e near

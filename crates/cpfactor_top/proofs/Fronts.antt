@@ -1,55 +1,29 @@
 -- Texts that are written piece by piece.
-use Rattle.std.specs.Prelude.{◌≡◌, ℕ, ◌+◌, ◌<◌, ◌≤◌, min, List, [], ◌∷◌, ◌++◌, length, take, drop, Option, Some, None}
-use Rattle.std.proofs.Common.{refl, zero-add, suc, sym, ap, ◌∙◌, inl, inr, subst, append_assoc, arith, get_or}
+use Rattle.std.specs.Prelude.{◌≡◌, ℕ, ◌+◌, ◌<◌, ◌≤◌, List, [], ◌++◌, length, take, drop, Option}
+use Rattle.std.proofs.Common.{refl, suc, sym, ap, ◌∙◌, inl, inr, subst, arith, get_or}
 use Rattle.std.specs.List.{flat_map}
-use Rattle.std.proofs.lemmas.List.{append-nil, take_all, flat_map_more, take-append-le, take_min, take_at, take-append-drop, take_more}
+use Rattle.std.proofs.lemmas.List.{take_all, flat_map_more, take-append-drop, take_more}
 use Rattle.std.proofs.lemmas.Grind.{flat_map-append}
 use Rattle.std.proofs.Math.Seq.{drop-cons}
 use Rattle.cp_outside.specs.Faults.{RoseOrFull}
 use Rattle.cp_outside.specs.Puts.{OnDone, OnPutFailed, OnPutOutOfMemory, appended, AppendsFront}
+use Rattle.cp_outside.proofs.PutLaws.{appended-append, AppendsFront-none, AppendsFront-more, AppendsFront-after}
 use Rattle.cpfactor_top.specs.declared.ended.Ended.{Ended}
 use Rattle.cp_outside.specs.declared.sink.PutEnd.{PutEnd}
 use Rattle.cp_outside.specs.declared.sink.PutEnd.TheVariants.{Done, Failed, OutOfMemory}
 use Rattle.cpfactor_top.specs.Ending.{ended_after}
 use Rattle.cpfactor_top.specs.Endings.{Outlet, outlet, IsPut, EndsBy, IsOnly}
 
-pub appended-nil : (old : Option (List ℕ)) → old ≡ appended old []
-unfolding appended
-appended-nil None = refl
-appended-nil (Some held) = ap (λ (bytes : List ℕ). Some bytes) (sym (append-nil held))
-
-pub appended-append : (old : Option (List ℕ)) (a b : List ℕ) → appended (appended old a) b ≡ appended old (a ++ b)
-unfolding appended
-appended-append None a b = refl
-appended-append (Some held) a b = ap (λ (bytes : List ℕ). Some bytes) (append_assoc held a b)
-
-take-front : (kept : ℕ) (piece rest : List ℕ) → take (min kept (length piece)) (piece ++ rest) ≡ take kept piece
-take-front kept piece rest =
-    let within : min kept (length piece) ≤ length piece = omega arith in
-    take-append-le (min kept (length piece)) piece rest within ∙ take_min kept piece
-
--- so many more than all of a
-take-behind : (a b : List ℕ) (k : ℕ) → take (length a + k) (a ++ b) ≡ a ++ take k b
-take-behind [] b k = ap (λ n. take n b) (zero-add k)
-take-behind (x ∷ a) b k = let e : suc (length a) + k ≡ suc (length a + k) = omega arith in rw e (ap (λ t. x ∷ t) (take-behind a b k))
-
 -- a front of a piece that stands behind what is written, and before what isn't yet
-pub front_behind : (old mid new : Option (List ℕ)) (a piece rest : List ℕ) → mid ≡ appended old a → AppendsFront mid new piece → AppendsFront old new (a ++ (piece ++ rest))
-front_behind old mid new a piece rest is front = record {
-  kept = length a + min front.kept (length piece);
-  appends = front.appends ∙ ap (λ m. appended m (take front.kept piece)) is ∙ appended-append old a (take front.kept piece)
-      ∙ ap (appended old) (sym (take-behind a (piece ++ rest) (min front.kept (length piece)) ∙ ap (λ t. a ++ t) (take-front front.kept piece rest)));
-}
+front_behind : (old mid new : Option (List ℕ)) (a piece rest : List ℕ) → mid ≡ appended old a → AppendsFront mid new piece → AppendsFront old new (a ++ (piece ++ rest))
+front_behind old mid new a piece rest is front = AppendsFront-after old mid new a (piece ++ rest) is (AppendsFront-more mid new piece rest front)
 
--- nothing of what isn't yet written
-pub front_so_far : (old new : Option (List ℕ)) (a rest : List ℕ) → new ≡ appended old a → AppendsFront old new (a ++ rest)
-front_so_far old new a rest is = record {
-  kept = length a;
-  appends = is ∙ ap (appended old) (sym (take_at a rest (length a) refl));
-}
+-- nothing of a text
+front_unchanged : (old new : Option (List ℕ)) (text : List ℕ) → new ≡ old → AppendsFront old new text
+front_unchanged old new text is = subst (λ (told : Option (List ℕ)). AppendsFront old told text) (sym is) (AppendsFront-none old text)
 
 -- ---- pieces one after the other
-pub pieces_split : {X : Type 0} (f : X → List ℕ) (xs : List X) (i : ℕ) (d : X) → i < length xs
+pieces_split : {X : Type 0} (f : X → List ℕ) (xs : List X) (i : ℕ) (d : X) → i < length xs
     → flat_map f xs ≡ flat_map f (take i xs) ++ (f (get_or xs i d) ++ flat_map f (drop (suc i) xs))
 pieces_split f xs i d l =
     let whole : take i xs ++ drop i xs ≡ xs = take-append-drop i xs in
@@ -61,36 +35,33 @@ piece_more f xs i d old mid new l is e =
     e ∙ ap (λ m. appended m (f (get_or xs i d))) is ∙ appended-append old (flat_map f (take i xs)) (f (get_or xs i d))
     ∙ ap (appended old) (flat_map_more f [] (take i xs) (get_or xs i d) ∙ ap (flat_map f) (sym (take_more xs i d l)))
 
-pub piece_failed : {X : Type 0} (f : X → List ℕ) (xs : List X) (i : ℕ) (d : X) (old mid new : Option (List ℕ)) → i < length xs → mid ≡ appended old (flat_map f (take i xs)) → AppendsFront mid new (f (get_or xs i d))
+piece_failed : {X : Type 0} (f : X → List ℕ) (xs : List X) (i : ℕ) (d : X) (old mid new : Option (List ℕ)) → i < length xs → mid ≡ appended old (flat_map f (take i xs)) → AppendsFront mid new (f (get_or xs i d))
     → AppendsFront old new (flat_map f xs)
 piece_failed f xs i d old mid new l is front =
     subst (AppendsFront old new) (sym (pieces_split f xs i d l)) (front_behind old mid new (flat_map f (take i xs)) (f (get_or xs i d)) (flat_map f (drop (suc i) xs)) is front)
 
-pub pieces_stopped : {X : Type 0} (f : X → List ℕ) (xs : List X) (i : ℕ) (old mid : Option (List ℕ)) → mid ≡ appended old (flat_map f (take i xs)) → AppendsFront old mid (flat_map f xs)
-pieces_stopped f xs i old mid is =
-    let whole : flat_map f (take i xs) ++ flat_map f (drop i xs) ≡ flat_map f xs = sym (flat_map-append f (take i xs) (drop i xs)) ∙ ap (flat_map f) (take-append-drop i xs) in
-    subst (AppendsFront old mid) whole (front_so_far old mid (flat_map f (take i xs)) (flat_map f (drop i xs)) is)
-
 pub pieces_done : {X : Type 0} (f : X → List ℕ) (xs : List X) (i : ℕ) (old mid : Option (List ℕ)) → length xs ≤ i → mid ≡ appended old (flat_map f (take i xs)) → mid ≡ appended old (flat_map f xs)
 pieces_done f xs i old mid le is = is ∙ ap (λ t. appended old (flat_map f t)) (take_all i xs le)
 
+-- a piece that was cut short cuts all of them short
+pub pieces_stopped : {X : Type 0} (f : X → List ℕ) (xs : List X) (i : ℕ) (d : X) (old mid new : Option (List ℕ)) (before between after : ℕ) (end : PutEnd) → (end ≡ Done → ⊥) → i < length xs → mid ≡ appended old (flat_map f (take i xs)) → before ≤ between
+    → IsPut (f (get_or xs i d)) (outlet mid new between after) end → IsPut (flat_map f xs) (outlet old new before after) end
+pieces_stopped f xs i d old mid new before between after Done stopped l is le put = absurd (stopped refl)
+pieces_stopped f xs i d old mid new before between after Failed stopped l is le put = (omega (arith, put.0), piece_failed f xs i d old mid new l is put.1)
+pieces_stopped f xs i d old mid new before between after OutOfMemory stopped l is le put = piece_failed f xs i d old mid new l is put
+
 -- ---- the ends of puts
 pub put_nothing : (text : List ℕ) (old : Option (List ℕ)) (before after : ℕ) → IsPut text (outlet old old before after) OutOfMemory
-put_nothing text old before after = front_so_far old old [] text (appended-nil old)
+put_nothing text old before after = AppendsFront-none old text
 
 -- a text that is put behind another
 pub put_behind : (a b : List ℕ) (old mid new : Option (List ℕ)) (before between after : ℕ) (end : PutEnd) → mid ≡ appended old a → before ≤ between
     → IsPut b (outlet mid new between after) end → IsPut (a ++ b) (outlet old new before after) end
 put_behind a b old mid new before between after Done is le put = put ∙ ap (λ m. appended m b) is ∙ appended-append old a b
-put_behind a b old mid new before between after Failed is le put =
-    (omega (arith, put.0), subst (AppendsFront old new) (ap (λ t. a ++ t) (append-nil b)) (front_behind old mid new a b [] is put.1))
-put_behind a b old mid new before between after OutOfMemory is le put = subst (AppendsFront old new) (ap (λ t. a ++ t) (append-nil b)) (front_behind old mid new a b [] is put)
+put_behind a b old mid new before between after Failed is le put = (omega (arith, put.0), AppendsFront-after old mid new a b is put.1)
+put_behind a b old mid new before between after OutOfMemory is le put = AppendsFront-after old mid new a b is put
 
--- a text that failed or was left off before anything could be put behind it
-pub put_before : (a b : List ℕ) (old new : Option (List ℕ)) (before after : ℕ) → AppendsFront old new a → AppendsFront old new (a ++ b)
-put_before a b old new before after front = front_behind old old new [] a b (appended-nil old) front
-
-pub ends_by_put : (e : Ended) (text : List ℕ) (o : Outlet) (end : PutEnd) → IsPut text o end → EndsBy (IsOnly e text) o (ended_after end e)
+ends_by_put : (e : Ended) (text : List ℕ) (o : Outlet) (end : PutEnd) → IsPut text o end → EndsBy (IsOnly e text) o (ended_after end e)
 ends_by_put e text o Done put = inl (record { text = text; answer = (refl, refl); written = put })
 ends_by_put e text o Failed put = inr (inl (record { fault = refl; rose = put.0; front = inl (record { due = e; text = text; answer = (refl, refl); front = put.1 }) }))
 ends_by_put e text o OutOfMemory put = inr (inr (record { memory = refl; front = inr (inr (record { due = e; text = text; answer = (refl, refl); front = put })) }))
@@ -105,8 +76,11 @@ pub put_is : (text bytes : List ℕ) (old new : Option (List ℕ)) (before after
     → IsPut text (outlet old new before after) end
 put_is text bytes old new before after Done same done front nothing rose = done ∙ ap (appended old) same
 put_is text bytes old new before after Failed same done front nothing rose = (rose, subst (AppendsFront old new) same front)
-put_is text bytes old new before after OutOfMemory same done front nothing rose = front_so_far old new [] text (nothing ∙ appended-nil old)
+put_is text bytes old new before after OutOfMemory same done front nothing rose = front_unchanged old new text nothing
 
-pub piece_put : {X : Type 0} (f : X → List ℕ) (xs : List X) (i : ℕ) (d : X) (old mid new : Option (List ℕ)) (before between after : ℕ) → i < length xs → mid ≡ appended old (flat_map f (take i xs)) → before ≤ between
-    → IsPut (f (get_or xs i d)) (outlet mid new between after) Failed → IsPut (flat_map f xs) (outlet old new before after) Failed
-piece_put f xs i d old mid new before between after l is le put = (omega (arith, put.0), piece_failed f xs i d old mid new l is put.1)
+-- the same where the put was cut short and more was to follow
+pub put_stopped : (text bytes rest : List ℕ) (old new : Option (List ℕ)) (before after : ℕ) (end : PutEnd) → (end ≡ Done → ⊥) → bytes ≡ text
+    → OnPutFailed end (AppendsFront old new bytes) → OnPutOutOfMemory end (new ≡ old) → OnPutFailed end (RoseOrFull before after) → IsPut (text ++ rest) (outlet old new before after) end
+put_stopped text bytes rest old new before after Done stopped same front nothing rose = absurd (stopped refl)
+put_stopped text bytes rest old new before after Failed stopped same front nothing rose = (rose, AppendsFront-more old new text rest (subst (AppendsFront old new) same front))
+put_stopped text bytes rest old new before after OutOfMemory stopped same front nothing rose = front_unchanged old new (text ++ rest) nothing

@@ -1,27 +1,19 @@
 -- A line, word by word.
 use Rattle.std.specs.Prelude.{map, false}
-use Rattle.std.proofs.Common.{◌≡◌, ℕ, zero, suc, ◌+◌, ◌<◌, ◌≤◌, List, [], ◌∷◌, ◌++◌, length, get_or, take, refl, sym, ap, ap₂, ◌∙◌, append_assoc, length-append, arith}
+use Rattle.std.proofs.Common.{◌≡◌, ℕ, ◌+◌, ◌<◌, ◌≤◌, List, [], ◌∷◌, ◌++◌, length, get_or, take, refl, sym, ap, ap₂, ◌∙◌, append_assoc, length-append, arith}
 use Rattle.std.specs.Fmt.{decimal}
 use Rattle.unimodular_cone.specs.Paths.{Path, digit_of, digit_at}
 use Rattle.std.specs.List.{join_with_byte}
 use Rattle.std.proofs.lemmas.List.{append-nil, map_more, take_all, length-take, length-map}
 use Rattle.cpfactor_top.specs.declared.line.Word.{Word}
-use Rattle.cpfactor_top.specs.Lines.{line, separated, word_text, words_text, path_word, digits_text}
+use Rattle.matrix_text.specs.Spelling.{separated}
+use Rattle.cpfactor_top.specs.Lines.{line, word_text, words_text, path_word, digits_text}
 
 join_push : (ws : List (List ℕ)) (w : List ℕ) → join_with_byte 32 (ws ++ w ∷ []) ≡ join_with_byte 32 ws ++ separated (length ws) w
 unfolding separated
 join_push [] w = refl
 join_push (v ∷ []) w = refl
 join_push (v ∷ u ∷ ws) w = ap (λ t. v ++ 32 ∷ t) (join_push (u ∷ ws) w) ∙ sym (append_assoc v (32 ∷ join_with_byte 32 (u ∷ ws)) (separated (length (u ∷ ws)) w))
-
-pub first_column : (column : ℕ) (word old new : List ℕ) → column ≡ 0 → new ≡ old ++ word → new ≡ old ++ separated column word
-unfolding separated
-first_column column word old new z e = rw z e
-
-pub later_column : (column : ℕ) (word old mid new : List ℕ) → (column ≡ 0 → ⊥) → mid ≡ old ++ 32 ∷ [] → new ≡ mid ++ word → new ≡ old ++ separated column word
-unfolding separated
-later_column zero word old mid new z e f = absurd (z refl)
-later_column (suc column) word old mid new z e f = rw (f, e) (append_assoc old (32 ∷ []) word)
 
 pub word_more : (words : List Word) (i : ℕ) (d : Word) (old mid new : List ℕ) → i < length words → mid ≡ old ++ join_with_byte 32 (words_text (take i words)) → new ≡ mid ++ separated i (word_text (get_or words i d))
     → new ≡ old ++ join_with_byte 32 (words_text (take (i + 1) words))

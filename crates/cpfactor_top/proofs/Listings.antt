@@ -6,7 +6,7 @@ use Rattle.std.specs.Fmt.{decimal, signed_decimal}
 use Rattle.exact_forms.specs.Factors.{WeightedVector}
 use Rattle.unimodular_cone.specs.Paths.{Path}
 use Rattle.cpfactor_top.specs.Lines.{line, path_word}
-use Rattle.cpfactor_top.specs.Texts.{term_line, vector_line, value_text, factorization_text, minimum_text, low_text}
+use Rattle.cpfactor_top.specs.Texts.{term_line, vector_line, value_text, factorization_text, vectors_text, minimum_text, low_text}
 
 -- the line of the item at an index
 item_line : {X : Type 0} (f : X → List ℕ) (xs : List X) (k : ℕ) (item : X) → slice_get xs k ≡ Some item → f item ≡ slice_index_or (map f xs) k []
@@ -39,14 +39,14 @@ factorization_lines n terms head is = ap₂ (λ (a : List ℕ) (b : List ℕ). a
 abbrev pub count_line : ℕ → List ℕ
 count_line count = line (codes "vectors" ∷ decimal count ∷ [])
 
-pub vectors_lines : (vectors : List (List ℕ)) (head : List ℕ) → head ≡ count_line (length vectors) → head ++ flat_map (λ (l : List ℕ). l) (map vector_line vectors) ≡ count_line (length vectors) ++ flat_map vector_line vectors
+pub vectors_lines : (vectors : List (List ℕ)) (head : List ℕ) → head ≡ count_line (length vectors) → head ++ flat_map (λ (l : List ℕ). l) (map vector_line vectors) ≡ vectors_text vectors
 vectors_lines vectors head is = ap₂ (λ (a : List ℕ) (b : List ℕ). a ++ b) is (flat_map-map vector_line vectors)
 
 pub minimum_lines : (d m : ℤ) (vectors : List (List ℕ)) (head word : List ℕ) → word ≡ value_text m d → head ≡ line (codes "minimum" ∷ word ∷ [])
-    → head ++ (count_line (length vectors) ++ flat_map vector_line vectors) ≡ minimum_text d m vectors
+    → head ++ vectors_text vectors ≡ minimum_text d m vectors
 unfolding minimum_text
 minimum_lines d m vectors head word same is =
-    ap (λ (h : List ℕ). h ++ (count_line (length vectors) ++ flat_map vector_line vectors)) (is ∙ ap (λ (w : List ℕ). line (codes "minimum" ∷ w ∷ [])) same)
+    ap (λ (h : List ℕ). h ++ vectors_text vectors) (is ∙ ap (λ (w : List ℕ). line (codes "minimum" ∷ w ∷ [])) same)
 
 pub low_line : (d z : ℤ) (x xs word : List ℕ) (path : Path) → word ≡ value_text z d → xs ≡ x
     → line (codes "low" ∷ codes "value" ∷ word ∷ codes "path" ∷ path_word path ∷ codes "vector" ∷ map decimal xs) ≡ low_text d x z path

@@ -1,5 +1,5 @@
 -- A reader that goes on by a word.
-use Rattle.std.proofs.Common.{◌≡◌, ℕ, zero, suc, ◌+◌, ◌-◌, ◌<◌, ◌≤◌, Bool, true, false, ◌&&◌, List, [], ◌∷◌, ◌++◌, length, get_or, set, Option, Some, None, refl, sym, ap, subst, ◌∙◌, arith}
+use Rattle.std.proofs.Common.{◌≡◌, ℕ, zero, suc, ◌+◌, ◌*◌, ◌-◌, ◌<◌, ◌≤◌, Bool, true, false, ◌&&◌, List, [], ◌∷◌, ◌++◌, length, get_or, set, Option, Some, None, refl, sym, ap, subst, ◌∙◌, arith}
 use Rattle.std.proofs.lemmas.List.{take_more_set, append-nil, length-map, get_or-take}
 use Rattle.std.proofs.lemmas.Bool.{false≢true, and_left, and_right, and_from, ne_eqb, eq-eqb}
 use Rattle.std.proofs.lemmas.Option.{slice_get_within}
@@ -13,7 +13,7 @@ use Rattle.std.specs.List.{list_all, range_with_len}
 use Rattle.cpfactor_top.specs.Reading.{is_option, has_form, has_wanted, can_be_read, is_plain, plain_before, plain_argument, wanted, word_at, is_complete, place_or_missing, fault_place}
 use Rattle.cpfactor_top.specs.Reading as of
 use Rattle.cpfactor_top.specs.Requests.{texts, form_of, option_of, plain_of, options_of, plain_places}
-use Rattle.cpfactor_top.specs.Readers.{HasRead, ArePlaces}
+use Rattle.cpfactor_top.specs.Readers.{most_plain, HasRead, ArePlaces}
 use Rattle.cpfactor_top.specs.declared.reader.Reader.{Reader}
 use Rattle.cpfactor_top.specs.declared.row.CommandRow.{CommandRow}
 use Rattle.cpfactor_top.specs.declared.row.Form.{Form}
@@ -27,7 +27,7 @@ places-more options words k =
     ap (filter (is_plain options words)) (range_more 0 k) ∙ rw from (filter-append (is_plain options words) (range_with_len 0 k) (k ∷ []))
 
 -- over a plain argument
-pub HasRead-plain : (row : CommandRow) (words : List (List ℕ)) (k : ℕ) (reader : Reader) (next : Option Form) → HasRead row words k reader → is_plain (options_of row) words k ≡ true → reader.count < 3 → option_map form_of next ≡ wanted (options_of row) words (k + 1)
+pub HasRead-plain : (row : CommandRow) (words : List (List ℕ)) (k : ℕ) (reader : Reader) (next : Option Form) → HasRead row words k reader → is_plain (options_of row) words k ≡ true → reader.count < most_plain → option_map form_of next ≡ wanted (options_of row) words (k + 1)
     → HasRead row words (k + 1) (record { wanted = next; count = reader.count + 1; places = set reader.places reader.count k })
 HasRead-plain row words k reader next has plain room waits = record {
   waits = waits;
@@ -47,7 +47,7 @@ HasRead-other row words k reader next has other waits = record {
 }
 
 -- before the first word
-pub HasRead-start : (row : CommandRow) (words : List (List ℕ)) → HasRead row words 0 (record { wanted = None; count = 0; places = 0 ∷ 0 ∷ 0 ∷ [] })
+pub HasRead-start : (row : CommandRow) (words : List (List ℕ)) → HasRead row words 0 (record { wanted = None; count = 0; places = 0 ∷ [] })
 unfolding wanted plain_before
 HasRead-start row words = record { waits = refl; counts = refl; places = refl; room = refl }
 
@@ -114,7 +114,7 @@ pub nothing_missing : (row : CommandRow) (words : List (List ℕ)) (reader : Rea
 nothing_missing row words reader has fits none full = fault_read row words reader true has fits (and_from _ _ (eq-eqb reader.count (length row.plain.now) full) (ap is_none (none_of reader.wanted none)))
 
 -- the reader is done
-pub are_places : (row : CommandRow) (words : List (List ℕ)) (reader : Reader) → HasRead row words (length words) reader → fault_place (plain_of row) (options_of row) words ≡ None → reader.count ≡ length row.plain.now → length row.plain.now ≤ 3 → ArePlaces row words reader.places
+pub are_places : (row : CommandRow) (words : List (List ℕ)) (reader : Reader) → HasRead row words (length words) reader → fault_place (plain_of row) (options_of row) words ≡ None → reader.count ≡ length row.plain.now → length row.plain.now ≤ most_plain → ArePlaces row words reader.places
 unfolding plain_argument plain_before
 are_places row words reader has no_fault full few = record {
   no_fault = no_fault;
@@ -139,14 +139,14 @@ are_places row words reader has no_fault full few = record {
     place i lt = rw (same i lt) (range_place (is_plain (options_of row) words) 0 (length words) (length words) (omega arith) i (many i lt))
 
 -- a plain argument that can be read has a place
-pub HasRead-room : (row : CommandRow) (words : List (List ℕ)) (k : ℕ) (reader : Reader) → HasRead row words k reader → is_some reader.wanted ≡ false → is_option (word_at words k) ≡ false → can_be_read (plain_of row) (options_of row) words k ≡ true → length row.plain.now ≤ 3 → reader.count < 3
+pub HasRead-room : (row : CommandRow) (words : List (List ℕ)) (k : ℕ) (reader : Reader) → HasRead row words k reader → is_some reader.wanted ≡ false → is_option (word_at words k) ≡ false → can_be_read (plain_of row) (options_of row) words k ≡ true → length row.plain.now ≤ most_plain → reader.count < most_plain
 HasRead-room row words k reader has none other fits few =
     let is : wanted (options_of row) words k ≡ None = sym has.waits ∙ ap (option_map form_of) (none_of reader.wanted none) in
     omega (arith, plain_within (plain_of row) (options_of row) words k is other fits, few, has.counts, length-map row.plain.now form_of)
 
 -- words that can be read are few
-pub read_few : (row : CommandRow) (words : List (List ℕ)) (k : ℕ) → list_all (λ o. is_option o.name) (options_of row) ≡ true → length row.plain.now ≤ 3 → length row.options.now ≤ 13 → k ≤ length words → ((j : ℕ) → j < k → can_be_read (plain_of row) (options_of row) words j ≡ true) → k ≤ 29
-read_few row words k named plain options le fits = omega (arith, read-le (plain_of row) (options_of row) words k named le fits, plain, options, length-map row.plain.now form_of, length-map row.options.now option_of)
+pub read_few : (row : CommandRow) (words : List (List ℕ)) (k : ℕ) → list_all (λ o. is_option o.name) (options_of row) ≡ true → length row.plain.now + 2 * length row.options.now ≤ 30 → k ≤ length words → ((j : ℕ) → j < k → can_be_read (plain_of row) (options_of row) words j ≡ true) → k ≤ 30
+read_few row words k named few le fits = omega (arith, read-le (plain_of row) (options_of row) words k named le fits, few, length-map row.plain.now form_of, length-map row.options.now option_of)
 
 -- the word at such a place
 pub argument_text : (row : CommandRow) (words : List (String Global)) (places : List ℕ) (i : ℕ) (word : String Global) → ArePlaces row (texts words) places → i < length row.plain.now → word ≡ get_or words (get_or places i 0) word → string_bytes word ≡ plain_argument (options_of row) (texts words) i

@@ -10,10 +10,11 @@ use Rattle.std.specs.Option.{option_and_then}
 use Rattle.std.specs.Str.{bytes_eq}
 use Rattle.std.specs.Str.Parse.{digits_value}
 use Rattle.std.specs.String.{string_bytes}
+use Rattle.matrix_text.proofs.Squares.{find-none, none-find}
 use Rattle.cpfactor_top.specs.Reading.{Form, Number, OptionRow, is_numeral, has_form, wanted, word_at, option_named, option_value, can_be_read, first_unread, is_complete, place_or_missing, fault_place}
 use Rattle.cpfactor_top.specs.Commands.{CommandRow, commands, request_or_fault, read_as, reading}
 use Rattle.cpfactor_top.specs.Requests.{texts}
-use Rattle.cpfactor_top.proofs.FaultPlaces.{found_none, same_bytes}
+use Rattle.cpfactor_top.proofs.FaultPlaces.{same_bytes}
 use Rattle.cpfactor_top.proofs.Rows.{read_value, text_at}
 
 -- ---- the first place that fails
@@ -27,10 +28,6 @@ found_at p a (suc n) k le lt before here = elim (cases_eq a k) [
       rw other (found_at p (a + 1) n k (omega arith) (omega arith) (λ j up below. before j (omega arith) below) here)
 ]
 
-not_found : (p : ℕ → Bool) (a n : ℕ) → ((j : ℕ) → a ≤ j → j < a + n → p j ≡ false) → find p (range_with_len a n) ≡ None
-not_found p a zero fails = refl
-not_found p a (suc n) fails = let other : p a ≡ false = fails a (omega arith) (omega arith) in rw other (not_found p (a + 1) n (λ j up below. fails j (omega arith) (omega arith)))
-
 pub fault_at : (plain : List Form) (options : List OptionRow) (words : List (List ℕ)) (k : ℕ) → k < length words → ((j : ℕ) → j < k → can_be_read plain options words j ≡ true) → can_be_read plain options words k ≡ false → fault_place plain options words ≡ Some k
 unfolding fault_place first_unread
 fault_at plain options words k lt fits fails =
@@ -40,7 +37,7 @@ fault_at plain options words k lt fits fails =
 pub fault_behind : (plain : List Form) (options : List OptionRow) (words : List (List ℕ)) → ((j : ℕ) → j < length words → can_be_read plain options words j ≡ true) → fault_place plain options words ≡ place_or_missing None (is_complete plain options words) (length words)
 unfolding fault_place first_unread
 fault_behind plain options words fits =
-    let none : find (λ i. not (can_be_read plain options words i)) (range_with_len 0 (length words)) ≡ None = not_found (λ i. not (can_be_read plain options words i)) 0 (length words) (λ j up below. ap not (fits j (omega (arith, below)))) in
+    let none : find (λ i. not (can_be_read plain options words i)) (range_with_len 0 (length words)) ≡ None = none-find (λ i. not (can_be_read plain options words i)) 0 (length words) (λ j up below. ap not (fits j (omega (arith, below)))) in
     rw none refl
 
 -- ---- words without a fault
@@ -56,7 +53,7 @@ read_through plain options words none = by (first_unread plain options words) (i
 
 pub read_at : (plain : List Form) (options : List OptionRow) (words : List (List ℕ)) (k : ℕ) → fault_place plain options words ≡ None → k < length words → can_be_read plain options words k ≡ true
 unfolding first_unread
-read_at plain options words k none lt = not-false _ (found_none (λ i. not (can_be_read plain options words i)) 0 (length words) (read_through plain options words none).0 k (omega arith) (omega arith))
+read_at plain options words k none lt = not-false _ (find-none (λ i. not (can_be_read plain options words i)) 0 (length words) (read_through plain options words none).0 k (omega arith) (omega arith))
 
 nothing_wanted : (plain : List Form) (options : List OptionRow) (words : List (List ℕ)) → fault_place plain options words ≡ None → is_none (wanted options words (length words)) ≡ true
 unfolding is_complete

@@ -5,7 +5,6 @@ use Rattle.std.proofs.Common.{refl, sym, ap, ap₂, ◌∙◌, subst, arith}
 use Rattle.std.proofs.lemmas.Int.{ints}
 use Rattle.std.proofs.lemmas.List.{length-map, length-take, get_or-map, get_or-take, get_or_default, map-append, take_more, take_all}
 use Rattle.std.proofs.lemmas.List.Elements.{filter-append, All-filter, All-push}
-use Rattle.exact_forms.specs.Forms.{IsSymmetric}
 use Rattle.exact_forms.specs.Sums.{sum_ℚ}
 use Rattle.exact_forms.specs.Rational.{Rational, ratio, whole, ◌*ℚ◌}
 use Rattle.exact_forms.specs.Signs.{IsNonnegative, IsNegative, IsPositive}
@@ -13,7 +12,7 @@ use Rattle.exact_forms.specs.Vectors.{coordinate, IsNonzero, ComesBefore}
 use Rattle.exact_forms.specs.RankOne.{AreCoordinates}
 use Rattle.exact_forms.specs.Factors.{WeightedVector, weighted_sum}
 use Rattle.exact_forms.specs.PositiveTerms.{has_weight, positive_terms, IsInOrder}
-use Rattle.exact_forms.proofs.Triangles.{entry_in_symmetric}
+use Rattle.exact_forms.proofs.Triangles.{entry_symmetric}
 use Rattle.exact_forms.proofs.RationalSums.{sum_ℚ_same}
 use Rattle.exact_forms.proofs.Signs.{ratio_nonneg, positive-ratio, negative-ratio}
 use Rattle.exact_forms.proofs.Vectors.{increasing_places}
@@ -27,10 +26,6 @@ use Rattle.symmetric_matrix.proofs.Runs.{run_digit_inside, length-run_vector, ru
 use Rattle.symmetric_matrix.proofs.Weights.{start_coordinates_write, start_matrices_independent}
 use Rattle.fraction128.specs.Terms.{IsAfter}
 use Rattle.cpfactor_top.specs.StartCone.{start_term, start_terms, HaveWeights, HasNegativeWeight, LiesInStartCone, LiesOutside, IsStartFactorization}
-
-entry_symmetric : (s : Symmetric) → IsSymmetric s.size (entry s)
-unfolding entry
-entry_symmetric s i j li lj = entry_in_symmetric (pos 0) s.lower i j
 
 pub abs_positive : (d : ℤ) → pos 1 ≤ℤ d → 0 < nat_abs d
 abs_positive (pos n) h = omega (arith, ints)
@@ -139,7 +134,8 @@ module _ (s : Symmetric) (d : ℕ) (positive : 0 < d) (a : ℕ → ℕ → Ratio
   term_at k none l = get_or-map (start_term s d) (start_runs s.size) k no_run none l
 
   are_coordinates : AreCoordinates s.size (start_list s.size) (start_coordinates s.size (entry s) d) a
-  are_coordinates = record { sum = λ i j li lj. (start_coordinates_write s.size (entry s) d positive (entry_symmetric s)).sum i j li lj ∙ sym (is i j li lj) }
+  unfolding entry
+  are_coordinates = record { sum = λ i j li lj. (start_coordinates_write s.size (entry s) d positive (entry_symmetric s.size (pos 0) s.lower)).sum i j li lj ∙ sym (is i j li lj) }
 
   sum_is : (i j : ℕ) → i < s.size → j < s.size → weighted_sum terms i j ≡ a i j
   sum_is i j li lj =
@@ -220,12 +216,6 @@ all_made s d k made le so_far = subst (λ (r : List Run). (made ≡ positive_ter
 
 pub negative_at : (s : Symmetric) (k : ℕ) (w : ℤ) → k < length (start_runs s.size) → w ≡ start_weight s.size (entry s) (run_at s.size k) → w <ℤ pos 0 → HasNegativeWeight s (start_runs s.size)
 negative_at s k w l is negative = (k, run_at s.size k, l, get_or_default (start_runs s.size) k (run_at s.size k) no_run l, subst (λ (z : ℤ). z <ℤ pos 0) is negative)
-
-pub under : (w : ℤ) → int_lt w (pos 0) ≡ true → w <ℤ pos 0
-under w h = grind (arith, ints)
-
-pub not_under : (w : ℤ) → int_lt w (pos 0) ≡ false → pos 0 ≤ℤ w
-not_under w h = grind (arith, ints)
 
 -- what is made comes before the next vector
 pub next_is_after : (s : Symmetric) (d k : ℕ) (made : List WeightedVector) (v : List ℕ) → k < length (start_runs s.size) → made ≡ positive_terms (start_terms s d (take k (start_runs s.size))) → v ≡ run_vector s.size (run_at s.size k) → IsAfter made v

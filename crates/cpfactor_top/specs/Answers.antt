@@ -1,14 +1,22 @@
 -- What the program answers to the words of a command line: which ending is due, and which text goes with it.
 --
+--     text_limit                   the most bytes that a matrix file may have
+--     file_of r                    the name of a request's file
 --     answers_of r, due_of r       what a request's command answers of a matrix: ending and text; which ending is due
---     IsBytesAnswer answers bytes e text   the same of the bytes of a file: their first fault, or the answer of their matrix
---     IsBytesDue due bytes e
+--     IsFaultAnswer bytes e text   the bytes are no matrix text: the ending with their first fault, and its text
+--     IsBytesAnswer answers bytes e text   that, or the answer of the matrix whose text they are
+--     IsFaultDue, IsBytesDue due bytes e   the same of the ending alone
 --     Outside, outside             what the files tell of a name, and its count of faults, before and after a call
 --     AreRead file bytes           the bytes that were read of a file
---     IsFileAnswer answers file e text     the same of a file: it is too long, reading it failed, or the answer of its bytes
---     IsFileDue due held e         for a file that has these bytes
---     IsAnswer words files e text  the same of the words of a command line; `files name` is what stands outside for a name
+--     IsTooLong file e text        the file has more bytes than the limit: the ending, and its text
+--     IsUnread file e text         reading the file failed: the ending, and its text
+--     IsFileAnswer answers file e text     one of these, or the answer of the bytes that were read
+--     IsFileDue due held e         which ending is due for a file that has these bytes
+--     IsUsageAnswer words e text   the words are no command line: the ending with the position of the fault, and its text
+--     IsRequestAnswer words files e text   they ask for a request: the answer of its file; `files name` is what stands outside
+--     IsAnswer words files e text  one of the two
 --     IsRequestDue words told e    this ending is due for the words, where the files tell bytes
+--     IsCutOff given               the ending of a failed sink, or of want of memory
 --     YieldsTo e given             this ending was given, unless the sink failed or memory was wanting
 --     YieldsToReading e given      and, where a file has to be read first, unless that failed
 use Rattle.std.specs.Prelude.{◌≡◌, ◌⊎◌, ℕ, ◌<◌, ◌≤◌, List, length, Option, Some}
@@ -25,7 +33,6 @@ use Rattle.cpfactor_top.specs.Solving.{IsSolved, IsSolveDue}
 use Rattle.cpfactor_top.specs.Searching.{IsSearched, IsSearchDue}
 use Rattle.cpfactor_top.specs.Texts.{usage_text, too_long_text, fault_text, read_text}
 
--- the limit of a matrix file, in bytes
 abbrev pub text_limit : ℕ
 text_limit = 1048576
 
@@ -67,12 +74,12 @@ pub record Outside : Type 0 where
 abbrev pub outside : (List ℕ → Option (List ℕ)) → (List ℕ → ℕ) → (List ℕ → ℕ) → List ℕ → Outside
 outside told before after name = record { told = told name; faults_before = before name; faults_after = after name }
 
--- the bytes that were read: at most as many as the limit, and those that the files tell, where they tell them
+-- at most as many as the limit, and those that the files tell, where they tell them
 pub record AreRead (file : Outside) (bytes : List ℕ) : Type 0 where
   pub within : length bytes ≤ text_limit
   pub told : (held : List ℕ) → file.told ≡ Some held → bytes ≡ held
 
--- the file has more bytes than the limit, where the files tell them
+-- the length is known where the files tell the bytes
 pub record IsTooLong (file : Outside) (e : Ended) (text : List ℕ) : Type 0 where
   pub long : (held : List ℕ) → file.told ≡ Some held → text_limit < length held
   pub ended : e ≡ ending TooLong
@@ -108,7 +115,6 @@ pub record IsRequestDue (words : List (List ℕ)) (told : List ℕ → Option (L
   pub due : IsFileDue (due_of request) held e
 
 -- ---- which ending is given
--- the sink failed, or memory was wanting
 abbrev pub IsCutOff : Ended → Type 0
 IsCutOff given = (given ≡ ending WriteFault) ⊎ (given ≡ ending Memory)
 

@@ -3,7 +3,12 @@
 --     Request                  a command with what its words say: a file's name as bytes, then a depth
 --     HasRanges r              the numbers of a request are in their ranges
 --     CommandRow               a command: its name, the forms of its plain arguments, its options, and its request
+--     solve, minimum, copositive    the rows of the three commands
+--     depth                    the option `--depth`, with a number from 0 to 200
+--     depth_of words           the number after it, or else 60
 --     commands                 the commands of the program
+--     request_or_fault fault r the request, or the position of the word at the place that is at fault
+--     read_as row words        how the words after its name are read by a command's row; without a row, the name is at fault
 --     reading words            the request, or the position of the first word that cannot be read
 --     IsCommandLine words r    the words are a command line that asks for r
 --     IsUsageAt words p        they are none, and the first fault is at position p, from 1
@@ -36,7 +41,6 @@ pub record CommandRow : Type 0 where
 abbrev pub solve : CommandRow
 solve = record { name = codes "solve"; plain = FileName ∷ []; options = []; request = λ words. Solve (plain_argument [] words 0) }
 
--- the depth of a search
 abbrev pub depth : OptionRow
 depth = record { name = codes "--depth"; value = Some (Number 0 200) }
 
@@ -82,7 +86,6 @@ IsCommandLine words request = reading words ≡ Ok request
 abbrev pub IsUsageAt : List (List ℕ) → ℕ → Type 0
 IsUsageAt words position = reading words ≡ Err position
 
--- the words are a command line for one request, or at fault at one position, and not both
 pub record IsReadOneWay (words : List (List ℕ)) : Type 0 where
   pub some : ((request : Request) × IsCommandLine words request) ⊎ ((position : ℕ) × IsUsageAt words position)
   pub not_both : (request : Request) (position : ℕ) → IsCommandLine words request → IsUsageAt words position → ⊥

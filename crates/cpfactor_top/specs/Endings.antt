@@ -1,11 +1,13 @@
 -- How a call ended that writes the text of an answer to a sink.
 --
---     Outlet                        what the sink tells, and its count of faults, before and after the call
+--     Outlet, outlet                what the sink tells, and its count of faults, before and after the call
 --     IsWritten outlet text         the text stands behind what the sink held before
 --     IsFrontWritten outlet text    a front of the text does, maybe none or all of it
 --     Gives answers outlet e        e is the ending of an answer, and the answer's text is written
 --     GivesFront answers outlet     a front of the text of some answer is written
---     IsCutShort answers outlet e   the sink failed, or memory was wanting
+--     EndsByFault answers outlet e  the sink failed: a front of an answer's text is written, or of the line `refused memory`
+--     EndsByMemory answers outlet e memory was wanting: that line is written, or a front of an answer's text, maybe nothing
+--     IsCutShort answers outlet e   one of these two
 --     EndsBy answers outlet e       the ending is that of an answer, whose text is written; or the answer was cut short
 --     IsPut text outlet end         a text was put in one or more pieces, up to this end
 --     IsOnly e text, IsNone         there is one answer, with this ending and text; there is none
@@ -47,13 +49,11 @@ pub record GivesFront (answers : Ended → List ℕ → Type 0) (outlet : Outlet
   pub answer : answers due text
   pub front : IsFrontWritten outlet text
 
--- after a failed put: a front of an answer's text, or of the line that says that memory was wanting
 pub record EndsByFault (answers : Ended → List ℕ → Type 0) (outlet : Outlet) (e : Ended) : Type 0 where
   pub fault : e ≡ ending WriteFault
   pub rose : RoseOrFull outlet.faults_before outlet.faults_after
   pub front : GivesFront answers outlet ⊎ IsFrontWritten outlet memory_text
 
--- that line alone, or a front of an answer's text, maybe none of it
 pub record EndsByMemory (answers : Ended → List ℕ → Type 0) (outlet : Outlet) (e : Ended) : Type 0 where
   pub memory : e ≡ ending Memory
   pub front : IsWritten outlet memory_text ⊎ ((outlet.told_after ≡ outlet.told_before) ⊎ GivesFront answers outlet)

@@ -4,6 +4,7 @@ pub mod Texts
 pub mod Endings
 pub mod StartCone
 pub mod StartWeighing
+pub mod Given
 pub mod Solving
 pub mod Searching
 pub mod Answers

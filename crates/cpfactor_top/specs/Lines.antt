@@ -3,16 +3,15 @@
 --     line words               the words with one space between them, and a line feed
 --     word_text word           the bytes of a word
 --     words_text words         those of each of them
---     separated column word    the word, with a space before it in every column but the first
---     path_word path           a path's digits; the empty path is `-`
-use Rattle.std.specs.Prelude.{ℕ, zero, suc, ◌+◌, List, [], ◌∷◌, ◌++◌, map, codes}
+--     digits_text path         the digits of a path, from the root on
+--     path_word path           these; the empty path is `-`
+use Rattle.std.specs.Prelude.{ℕ, ◌+◌, List, [], ◌∷◌, ◌++◌, map, codes}
 use Rattle.std.specs.List.{join_with_byte}
 use Rattle.std.specs.Fmt.{decimal, signed_decimal}
 use Rattle.unimodular_cone.specs.Paths.{Path, digit_of}
 use Rattle.cpfactor_top.specs.declared.line.Word.{Word}
 use Rattle.cpfactor_top.specs.declared.line.Word.TheVariants.{Text, Whole, Signed, Fraction, PathDigits}
 
--- the digits of a path, as bytes
 unfoldable pub digits_text : Path → List ℕ
 digits_text path = map (λ side. 48 + digit_of side) path
 
@@ -32,7 +31,3 @@ words_text words = map word_text words
 
 unfoldable pub line : List (List ℕ) → List ℕ
 line words = join_with_byte 32 words ++ 10 ∷ []
-
-unfoldable pub separated : ℕ → List ℕ → List ℕ
-separated zero word = word
-separated (suc column) word = 32 ∷ word

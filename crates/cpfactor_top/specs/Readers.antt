@@ -1,5 +1,6 @@
 -- How far a reader of words has come, and what it has when it is done.
 --
+--     most_plain                      the most plain arguments that a command has
 --     HasRead row words k reader      the reader stands before the word at place k, and has the plain arguments before it
 --     ArePlaces row words places      the words have no fault, and their plain arguments are at these places, each of its form
 use Rattle.std.specs.Prelude.{◌≡◌, ℕ, ◌<◌, true, List, length, take, Some, None, option_map, slice_get, slice_index}
@@ -8,11 +9,14 @@ use Rattle.cpfactor_top.specs.Requests.{form_of, plain_of, options_of, plain_pla
 use Rattle.cpfactor_top.specs.declared.reader.Reader.{Reader}
 use Rattle.cpfactor_top.specs.declared.row.CommandRow.{CommandRow}
 
+abbrev pub most_plain : ℕ
+most_plain = 1
+
 pub record HasRead (row : CommandRow) (words : List (List ℕ)) (k : ℕ) (reader : Reader) : Type 0 where
   pub waits : option_map form_of reader.wanted ≡ wanted (options_of row) words k
   pub counts : reader.count ≡ plain_before (options_of row) words k
   pub places : take reader.count reader.places ≡ plain_places (options_of row) words k
-  pub room : length reader.places ≡ 3
+  pub room : length reader.places ≡ most_plain
 
 pub record ArePlaces (row : CommandRow) (words : List (List ℕ)) (places : List ℕ) : Type 0 where
   pub no_fault : fault_place (plain_of row) (options_of row) words ≡ None

@@ -3,13 +3,22 @@
 --     Form                         what a word has to be: a file name, or a number of a range
 --     OptionRow                    an option, and what the word that follows it has to be, if one does
 --     is_option word               the word begins with two minus signs
---     has_form form word           a file name is no option; a number is plain digits without a leading zero, in the range
+--     is_numeral word              it is digits without a leading zero, or `0`
+--     has_form form word           a file name is no option; a number is a numeral in its range
+--     word_at words k              the word at place k, empty past the last
+--     option_named options word    the option whose name the word is
 --     wanted options words k       what the word at place k has to be for the option before it
 --     is_plain options words k     the word at place k is a plain argument
+--     plain_before options words k       how many plain arguments stand before place k
 --     plain_argument options words i     the plain argument number i, from 0
 --     option_value words name default    the number in the word after the option of that name, or else the default
---     can_be_read plain options words k  the word at place k has the form wanted there, or is an option not given
---                                  before, or has the form of the next plain argument
+--     is_new_option options words k      the word at place k is an option of the command, and no word before it is the same
+--     has_wanted form word otherwise     the word has this form, if one is wanted, and else the other test holds
+--     can_be_read plain options words k  the word at place k has the form wanted there, or is a new option, or has the form
+--                                        of the next plain argument
+--     first_unread plain options words   the first place with a word that cannot be read
+--     is_complete plain options words    no plain argument is missing, and nothing that an option wants
+--     place_or_missing place complete n  that place, or else n where a word is missing there
 --     fault_place plain options words    the first place with a word that cannot be read, else the place of a missing word
 use Rattle.std.specs.Prelude.{ℕ, zero, suc, Bool, false, not, ◌&&◌, ◌||◌, List, [], length, take, Option, Some, None, is_some, is_none, slice_index, slice_index_or, slice_get, nat_eq, nat_le, ◌==◌, if◌then◌else◌, find, filter, count_by, codes}
 use Rattle.std.specs.List.{list_any, position, range_with_len, starts_with}
@@ -28,7 +37,6 @@ pub record OptionRow : Type 0 where
 unfoldable pub is_option : List ℕ → Bool
 is_option word = starts_with nat_eq word (codes "--")
 
--- digits without a leading zero, or `0`
 abbrev pub is_numeral : List ℕ → Bool
 is_numeral word = not (length word == 0) && all_ascii_digits word && (length word == 1 || not (slice_index word 0 == 48))
 
@@ -49,7 +57,6 @@ wanted options words (suc k) = option_and_then (λ o. o.value) (option_named opt
 unfoldable pub is_plain : List OptionRow → List (List ℕ) → ℕ → Bool
 is_plain options words k = is_none (wanted options words k) && not (is_option (word_at words k))
 
--- how many plain arguments stand before place k
 unfoldable pub plain_before : List OptionRow → List (List ℕ) → ℕ → ℕ
 plain_before options words k = count_by (is_plain options words) (range_with_len 0 k)
 
@@ -61,12 +68,10 @@ unfoldable pub option_value : List (List ℕ) → List ℕ → ℕ → ℕ
 option_value words name default =
     option_map_or (λ k. digits_value 10 (word_at words (suc k))) (position (λ word. bytes_eq word name) words) default
 
--- an option of the command that no earlier word is
 abbrev pub is_new_option : List OptionRow → List (List ℕ) → ℕ → Bool
 is_new_option options words k =
     is_some (option_named options (word_at words k)) && not (list_any (λ word. bytes_eq word (word_at words k)) (take k words))
 
--- the word has this form, if one is wanted, and else the other test holds
 abbrev pub has_wanted : Option Form → List ℕ → Bool → Bool
 has_wanted form word otherwise = option_map_or (λ f. has_form f word) form otherwise
 
@@ -79,7 +84,6 @@ can_be_read plain options words k =
 unfoldable pub first_unread : List Form → List OptionRow → List (List ℕ) → Option ℕ
 first_unread plain options words = find (λ k. not (can_be_read plain options words k)) (range_with_len 0 (length words))
 
--- no plain argument is missing, and nothing that an option wants
 unfoldable pub is_complete : List Form → List OptionRow → List (List ℕ) → Bool
 is_complete plain options words =
     (plain_before options words (length words) == length plain) && is_none (wanted options words (length words))

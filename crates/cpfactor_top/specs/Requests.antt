@@ -3,6 +3,7 @@
 --     texts words          the words as bytes
 --     request_of command   the request that a command stands for
 --     form_of form         what a word has to be
+--     option_of row        an option's name, and what the word after it has to be
 --     plain_of row         the forms of a command's plain arguments
 --     options_of row       its options
 --     plain_places options words k     the places of the plain arguments before place k
@@ -44,7 +45,6 @@ plain_of row = map form_of row.plain.now
 abbrev pub options_of : CommandRow → List of.OptionRow
 options_of row = map option_of row.options.now
 
--- the places of the plain arguments before place k
 abbrev pub plain_places : List of.OptionRow → List (List ℕ) → ℕ → List ℕ
 plain_places options words k = filter (is_plain options words) (range_with_len 0 k)
 

@@ -1,75 +1,71 @@
--- What `solve` answers of a matrix.
+-- What `solve` answers of a matrix A = S/d.
 --
---     whole_of a              the whole matrix S that clearing gives, A = S/d
---     denominator_of a        and d
---     IsClearable a           clearing owes nothing
---     IsWeighable a           and neither do the weights over the start vectors
---     IsSolveDue a e          this ending is due for a matrix that was read
+--     IsWeightRefused a e     the weights of S over the start vectors owe an operation, and the ending names the first
+--     IsWeightText a e text   that, with the text of the refusal
+--     IsWeighable a           these weights owe nothing
+--     IsOutside a e           A lies outside the start cone, and the ending says so
+--     IsInside a e            A lies in the start cone, and the ending is that of a verdict
 --     IsVerdict a text        the text of a factorization of A over the start vectors
---     IsSolved a e text       the ending is due, and this is the text of the answer
-use Rattle.std.specs.Prelude.{◌≡◌, ℕ, ℤ, List, Some, None}
+--     IsPlaceDue a e          one of these two endings is due
+--     IsPlaced a e text       it is, with its text
+--     IsWeighDue a e, IsWeighed a e text     the same from the weights on
+--     IsSolveDue a e, IsSolved a e text      the same of a matrix that was read: clearing owes an operation; or it owes none
+--                             and the weights do; or neither does, and A lies outside the start cone or in it
+use Rattle.std.specs.Prelude.{◌≡◌, ◌⊎◌, ℕ, List, Some, None}
 use Rattle.exact_forms.specs.Factors.{WeightedVector}
 use Rattle.symmetric_matrix.specs.Owed.{first_owed}
-use Rattle.symmetric_matrix.specs.Symmetric.{Symmetric}
 use Rattle.matrix_text.specs.RationalMatrix.{RationalMatrix, rational_entry}
-use Rattle.matrix_text.specs.Clearing.{is_placed_owed, clear_ops, cleared_of}
 use Rattle.cpfactor_top.specs.declared.ended.Ended.{Ended}
-use Rattle.cpfactor_top.specs.declared.ended.Cause.{Cause}
-use Rattle.cpfactor_top.specs.declared.ended.Cause.TheVariants.{Fine, Usage, TooLong, MatrixFault, Depth, Overflow, NotYet, ReadFault, WriteFault, Memory}
-use Rattle.cpfactor_top.specs.declared.ended.Owed.TheVariants.{Clear, Start, Gram, Bound}
+use Rattle.cpfactor_top.specs.declared.ended.Cause.TheVariants.{Fine, Overflow, NotYet}
+use Rattle.cpfactor_top.specs.declared.ended.Owed.TheVariants.{Start}
+use Rattle.cpfactor_top.specs.declared.ended.Lacking.TheVariants.{Outside}
+use Rattle.cpfactor_top.specs.declared.start_weight.WideWeight.{WideWeight}
 use Rattle.cpfactor_top.specs.Ending.{ending}
+use Rattle.cpfactor_top.specs.Given.{whole_of, IsClearable, IsClearRefused, IsClearText}
 use Rattle.cpfactor_top.specs.StartCone.{LiesInStartCone, LiesOutside, IsStartFactorization}
 use Rattle.cpfactor_top.specs.StartWeighing.{start_ops, is_weight_owed}
 use Rattle.cpfactor_top.specs.Texts.{factorization_text, owed_text, outside_text}
 
-abbrev pub whole_of : RationalMatrix → Symmetric
-whole_of a = (cleared_of a).0
+-- ---- the weights owe an operation
+pub record IsWeightRefused (a : RationalMatrix) (e : Ended) : Type 0 where
+  pub wide : WideWeight
+  pub first : first_owed is_weight_owed (start_ops (whole_of a)) ≡ Some wide
+  pub ended : e ≡ ending (Overflow (Start wide.vector wide.op))
 
-abbrev pub denominator_of : RationalMatrix → ℤ
-denominator_of a = (cleared_of a).1
+pub record IsWeightText (a : RationalMatrix) (e : Ended) (text : List ℕ) : Type 0 where
+  pub refused : IsWeightRefused a e
+  pub written : text ≡ owed_text (Start refused.wide.vector refused.wide.op)
 
-abbrev pub IsClearable : RationalMatrix → Type 0
-IsClearable a = first_owed is_placed_owed (clear_ops a) ≡ None
-
+-- ---- they owe nothing
 abbrev pub IsWeighable : RationalMatrix → Type 0
-IsWeighable a = IsClearable a × (first_owed is_weight_owed (start_ops (whole_of a)) ≡ None)
+IsWeighable a = first_owed is_weight_owed (start_ops (whole_of a)) ≡ None
 
-abbrev pub IsSolveCause : RationalMatrix → Cause → Type 0
-IsSolveCause a (Overflow (Clear row column op)) = first_owed is_placed_owed (clear_ops a) ≡ Some (record { row = row; column = column; op = op })
-IsSolveCause a (Overflow (Start vector op)) = IsClearable a × (first_owed is_weight_owed (start_ops (whole_of a)) ≡ Some (record { vector = vector; op = op }))
-IsSolveCause a (NotYet what) = IsWeighable a × LiesOutside a.size (rational_entry a)
-IsSolveCause a Fine = IsWeighable a × LiesInStartCone a.size (rational_entry a)
-IsSolveCause a (Overflow (Gram at)) = ⊥
-IsSolveCause a (Overflow (Bound diagonal)) = ⊥
-IsSolveCause a (Depth path) = ⊥
-IsSolveCause a (MatrixFault fault) = ⊥
-IsSolveCause a (Usage position) = ⊥
-IsSolveCause a TooLong = ⊥
-IsSolveCause a ReadFault = ⊥
-IsSolveCause a WriteFault = ⊥
-IsSolveCause a Memory = ⊥
+abbrev pub IsOutside : RationalMatrix → Ended → Type 0
+IsOutside a e = LiesOutside a.size (rational_entry a) × (e ≡ ending (NotYet Outside))
 
-abbrev pub IsSolveDue : RationalMatrix → Ended → Type 0
-IsSolveDue a e = (e ≡ ending e.cause) × IsSolveCause a e.cause
+abbrev pub IsInside : RationalMatrix → Ended → Type 0
+IsInside a e = LiesInStartCone a.size (rational_entry a) × (e ≡ ending Fine)
 
--- a factorization of A over the start vectors, and its text
 pub record IsVerdict (a : RationalMatrix) (text : List ℕ) : Type 0 where
   pub terms : List WeightedVector
   pub factorization : IsStartFactorization a.size (rational_entry a) terms
   pub written : text ≡ factorization_text a.size terms
 
-abbrev pub IsSolveText : RationalMatrix → Cause → List ℕ → Type 0
-IsSolveText a Fine text = IsVerdict a text
-IsSolveText a (Overflow owed) text = text ≡ owed_text owed
-IsSolveText a (NotYet what) text = text ≡ outside_text
-IsSolveText a (Depth path) text = ⊥
-IsSolveText a (MatrixFault fault) text = ⊥
-IsSolveText a (Usage position) text = ⊥
-IsSolveText a TooLong text = ⊥
-IsSolveText a ReadFault text = ⊥
-IsSolveText a WriteFault text = ⊥
-IsSolveText a Memory text = ⊥
+abbrev pub IsPlaceDue : RationalMatrix → Ended → Type 0
+IsPlaceDue a e = IsOutside a e ⊎ IsInside a e
 
-pub record IsSolved (a : RationalMatrix) (e : Ended) (text : List ℕ) : Type 0 where
-  pub due : IsSolveDue a e
-  pub text_of : IsSolveText a e.cause text
+abbrev pub IsPlaced : RationalMatrix → Ended → List ℕ → Type 0
+IsPlaced a e text = (IsOutside a e × (text ≡ outside_text)) ⊎ (IsInside a e × IsVerdict a text)
+
+-- ---- all cases
+abbrev pub IsWeighDue : RationalMatrix → Ended → Type 0
+IsWeighDue a e = IsWeightRefused a e ⊎ (IsWeighable a × IsPlaceDue a e)
+
+abbrev pub IsWeighed : RationalMatrix → Ended → List ℕ → Type 0
+IsWeighed a e text = IsWeightText a e text ⊎ (IsWeighable a × IsPlaced a e text)
+
+abbrev pub IsSolveDue : RationalMatrix → Ended → Type 0
+IsSolveDue a e = IsClearRefused a e ⊎ (IsClearable a × IsWeighDue a e)
+
+abbrev pub IsSolved : RationalMatrix → Ended → List ℕ → Type 0
+IsSolved a e text = IsClearText a e text ⊎ (IsClearable a × IsWeighed a e text)

@@ -4,13 +4,24 @@
 --     term_line term               the line of a term: its weight, then its vector's coordinates
 --     factorization_text n terms   the line `factored n k`, then the lines of the k terms
 --     refusal words                the line `refused ..`
+--     usage_text position          `refused usage POSITION`
+--     too_long_text                `refused text TooLong`
+--     fault_word kind              the name of the kind of a text's fault
 --     fault_text fault             `refused text KIND LINE`
---     owed_text owed               `refused overflow PLACE KIND LEFT RIGHT`, `refused overflow Gram PATH ..` or `refused overflow Bound DIAGONAL`
+--     operation_word kind          `Mul` or `Add`
+--     overflow_text place op       `refused overflow PLACE KIND LEFT RIGHT`, for an operation at a place
+--     entry_text path kind i j     `refused overflow Gram PATH KIND I J`, for an entry of the cone of a path
+--     wide_text path at            that line, with the kind and the two numbers of the entry
+--     owed_text owed               the line of what doesn't fit: one of these, or `refused overflow Bound DIAGONAL`
 --     depth_text path              `refused depth PATH`
+--     value_text z d               the fraction z over d
 --     vector_line x                the line of a vector's coordinates
---     minimum_text d m vectors     the line `minimum p/q` for m over d, the line `vectors c`, then the lines of the c vectors
+--     vectors_text vectors         the line `vectors c`, then the lines of the c vectors
+--     minimum_text d m vectors     the line `minimum p/q` for m over d, then the text of the vectors
 --     low_text d x z path          `low value p/q path PATH vector x1 x2 ..` for the value z over d
 --     copositive_text n            `copositive n`
+--     outside_text                 `refused not-yet outside`
+--     read_text, memory_text       `refused read`, `refused memory`
 use Rattle.std.specs.Prelude.{ℕ, ℤ, nat_abs, List, [], ◌∷◌, ◌++◌, length, map, codes}
 use Rattle.std.specs.List.{flat_map}
 use Rattle.std.specs.Fmt.{decimal, signed_decimal}
@@ -92,9 +103,11 @@ value_text z d = fraction_text (ratio z (nat_abs d))
 unfoldable pub vector_line : List ℕ → List ℕ
 vector_line x = line (map decimal x)
 
+abbrev pub vectors_text : List (List ℕ) → List ℕ
+vectors_text vectors = line (codes "vectors" ∷ decimal (length vectors) ∷ []) ++ flat_map vector_line vectors
+
 unfoldable pub minimum_text : ℤ → ℤ → List (List ℕ) → List ℕ
-minimum_text d m vectors =
-    line (codes "minimum" ∷ value_text m d ∷ []) ++ (line (codes "vectors" ∷ decimal (length vectors) ∷ []) ++ flat_map vector_line vectors)
+minimum_text d m vectors = line (codes "minimum" ∷ value_text m d ∷ []) ++ vectors_text vectors
 
 unfoldable pub low_text : ℤ → List ℕ → ℤ → Path → List ℕ
 low_text d x z path = line (codes "low" ∷ codes "value" ∷ value_text z d ∷ codes "path" ∷ path_word path ∷ codes "vector" ∷ map decimal x)

@@ -101,7 +101,9 @@ pub enum Cause {
 /// How a command ended.
 #[derive(Clone, Copy, Debug, PartialEq, Eq)]
 pub struct Ended {
+    /// The kind of the ending.
     pub status: Status,
+    /// Why it ended so.
     pub cause: Cause,
 }
 
@@ -113,8 +115,7 @@ impl Ended {
         let status = match cause {
             Cause::Fine => Status::Done,
             Cause::Usage { .. } => Status::Usage,
-            Cause::TooLong => Status::Text,
-            Cause::MatrixFault(_) => Status::Text,
+            Cause::TooLong | Cause::MatrixFault(_) => Status::Text,
             Cause::Depth { .. } => Status::Depth,
             Cause::Overflow(_) => Status::Overflow,
             Cause::NotYet { .. } => Status::NotYet,

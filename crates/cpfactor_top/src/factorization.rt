@@ -1,6 +1,5 @@
 //! Writing a factorization.
 
-ghost use Rattle.std.specs.Prelude.{◌≡◌};
 ghost use Rattle.cpfactor_top.specs.Ending.{ending};
 ghost use Rattle.cpfactor_top.specs.Texts.{factorization_text};
 ghost use Rattle.cpfactor_top.specs.Endings.{EndsBy, IsOnly, outlet};

@@ -1,13 +1,11 @@
 //! Writing what a search answers. Values are told over a denominator d, in lowest terms.
 
-ghost use Rattle.std.specs.Prelude.{◌≡◌, ◌≤ℤ◌, pos, ◌++◌, [], ◌∷◌, length, codes};
-ghost use Rattle.std.specs.List.{flat_map};
-ghost use Rattle.std.specs.Fmt.{decimal};
+ghost use Rattle.std.specs.Prelude.{◌≡◌, ◌≤ℤ◌, pos, ◌++◌};
 ghost use Rattle.symmetric_matrix.specs.Symmetric.{IsNarrow};
 ghost use Rattle.cpfactor_top.specs.declared.ended.Cause.TheVariants.{Fine, Depth};
 ghost use Rattle.cpfactor_top.specs.Ending.{ending, separated};
-ghost use Rattle.cpfactor_top.specs.Lines.{line, word_text};
-ghost use Rattle.cpfactor_top.specs.Texts.{value_text, vector_line, minimum_text, low_text, copositive_text, depth_text};
+ghost use Rattle.cpfactor_top.specs.Lines.{word_text};
+ghost use Rattle.cpfactor_top.specs.Texts.{value_text, vectors_text, minimum_text, low_text, copositive_text, depth_text};
 ghost use Rattle.cpfactor_top.specs.Endings.{EndsBy, IsOnly, IsPut, outlet};
 
 use crate::ended::{Cause, Ended, Status};
@@ -35,7 +33,7 @@ fn value_word<'a>(value: i128, d: i128) -> Word<'a>
 
 /// Writes the line that counts some vectors, and the line of each; they are made in `text`.
 fn put_vectors<K: Sink>(text: &mut Vec<u8>, sink: &mut K, vectors: &VectorList) -> PutEnd
-    ensures { IsPut (line (codes "vectors" ∷ decimal (length vectors.now) ∷ []) ++ flat_map vector_line vectors.now) (outlet (K.told sink.old) (K.told sink.new) (K.faults sink.old) (K.faults sink.new)) result }
+    ensures { IsPut (vectors_text vectors.now) (outlet (K.told sink.old) (K.told sink.new) (K.faults sink.old) (K.faults sink.new)) result }
 {
     text.clear();
     let words = [Word::Text(b"vectors"), Word::Whole(vectors.len() as u64)];
@@ -47,12 +45,11 @@ fn put_vectors<K: Sink>(text: &mut Vec<u8>, sink: &mut K, vectors: &VectorList) 
 
 /// Writes a text, and then some vectors.
 fn put_before_vectors<K: Sink>(text: &mut Vec<u8>, sink: &mut K, vectors: &VectorList) -> PutEnd
-    ensures { IsPut (text.old.items ++ (line (codes "vectors" ∷ decimal (length vectors.now) ∷ []) ++ flat_map vector_line vectors.now)) (outlet (K.told sink.old) (K.told sink.new) (K.faults sink.old) (K.faults sink.new)) result }
+    ensures { IsPut (text.old.items ++ vectors_text vectors.now) (outlet (K.told sink.old) (K.told sink.new) (K.faults sink.old) (K.faults sink.new)) result }
 {
     match sink.put(text) {
         PutEnd::Done => put_vectors(text, sink, vectors),
-        PutEnd::Failed => PutEnd::Failed,
-        PutEnd::OutOfMemory => PutEnd::OutOfMemory,
+        end => end,
     }
 }
 

@@ -5,8 +5,8 @@ ghost use Rattle.matrix_text.specs.Matrix.{MatrixText};
 ghost use Rattle.matrix_text.specs.Clearing.{is_placed_owed, clear_ops, cleared_of, IsCleared};
 ghost use Rattle.symmetric_matrix.specs.Owed.{answer};
 ghost use Rattle.cpfactor_top.specs.Endings.{EndsBy, outlet};
-ghost use Rattle.cpfactor_top.specs.Searching.{IsClearText};
-ghost use Rattle.cpfactor_top.specs.Answers.{IsFaultAnswer};
+ghost use Rattle.cpfactor_top.specs.Given.{IsClearText};
+ghost use Rattle.cpfactor_top.specs.Answers.{text_limit, IsFaultAnswer};
 
 use crate::ended::{Cause, Ended, Owed};
 use crate::line::Word;
@@ -23,7 +23,7 @@ pub fn read_or_refuse<K: Sink>(
     bytes: &[u8],
     sink: &mut K,
 ) -> Result<RatMatrix, Ended>
-    requires { length bytes.now ≤ 1048576 }
+    requires { length bytes.now ≤ text_limit }
     ensures read { IfOk result (λ a. MatrixText bytes.now a) }
     ensures silent { IfOk result (λ _. sink.new ≡ sink.old) }
     ensures refused { IfErr result (λ ended. EndsBy (IsFaultAnswer bytes.now) (outlet (K.told sink.old) (K.told sink.new) (K.faults sink.old) (K.faults sink.new)) ended) }

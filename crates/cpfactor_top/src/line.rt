@@ -1,10 +1,10 @@
 //! Lines of an answer: words with one space between them, and a line feed.
 
-ghost use Rattle.std.specs.Prelude.{◌≡◌, ◌++◌, ◌<◌, OnOk, List, length, map};
+ghost use Rattle.std.specs.Prelude.{◌≡◌, ◌++◌, ◌<◌, OnOk, map};
 ghost use Rattle.std.specs.List.{join_with_byte};
 ghost use Rattle.std.specs.Fmt.{decimal};
-ghost use Rattle.cpfactor_top.specs.Lines.{word_text, separated, words_text, path_word, digits_text};
-ghost use Rattle.cpfactor_top.specs.Lines.{line};
+ghost use Rattle.matrix_text.specs.Spelling.{separated};
+ghost use Rattle.cpfactor_top.specs.Lines.{line, word_text, words_text, path_word, digits_text};
 
 use itoa::Buffer;
 use std::alloc::AllocError;
@@ -71,7 +71,7 @@ fn push_digits(into: &mut Vec<u8>, path: &Path) -> Result<(), AllocError>
 }
 
 /// Appends the word of a column, with a space before it in every column but the first.
-#[tactic(auto, using(crate::proofs::LineLemmas::first_column, crate::proofs::LineLemmas::later_column))]
+#[tactic(auto, using(matrix_text::proofs::Written::first_column, matrix_text::proofs::Written::later_column))]
 fn push_column(into: &mut Vec<u8>, column: usize, word: Word) -> Result<(), AllocError>
     ensures { OnOk result (into.new.items ≡ into.old.items ++ separated column (word_text word.entry)) }
 {

@@ -74,8 +74,7 @@ fn put_items<L: Listing, K: Sink>(text: &mut Vec<u8>, sink: &mut K, list: &L) ->
     for k in 0..list.count() {
         match put_item(text, sink, list, k) {
             PutEnd::Done => {}
-            PutEnd::Failed => return PutEnd::Failed,
-            PutEnd::OutOfMemory => return PutEnd::OutOfMemory,
+            end => return end,
         }
     }
     PutEnd::Done
@@ -87,7 +86,6 @@ pub fn put_listed<L: Listing, K: Sink>(text: &mut Vec<u8>, sink: &mut K, list: &
 {
     match sink.put(text) {
         PutEnd::Done => put_items(text, sink, list),
-        PutEnd::Failed => PutEnd::Failed,
-        PutEnd::OutOfMemory => PutEnd::OutOfMemory,
+        end => end,
     }
 }

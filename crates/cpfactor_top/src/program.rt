@@ -1,13 +1,13 @@
 //! The whole program, over the world outside.
 
-ghost use Rattle.std.specs.Prelude.{◌≡◌, ◌≤◌, ℕ, List, Option, length};
+ghost use Rattle.std.specs.Prelude.{◌≡◌, ◌≤◌, ℕ, length};
 ghost use Rattle.cpfactor_top.specs.declared.ended.Ended.{Ended as an_ending};
 ghost use Rattle.cpfactor_top.specs.declared.ended.Cause.TheVariants.{Usage as usage};
 ghost use Rattle.cpfactor_top.specs.Ending.{HasStatus, ending};
 ghost use Rattle.cpfactor_top.specs.Endings.{EndsBy, outlet};
 ghost use Rattle.cpfactor_top.specs.Commands.{HasRanges, IsUsageAt};
 ghost use Rattle.cpfactor_top.specs.Requests.{texts, request_of};
-ghost use Rattle.cpfactor_top.specs.Answers.{file_of, answers_of, IsBytesAnswer, IsFileAnswer, IsAnswer, IsRequestDue, YieldsTo, YieldsToReading, outside};
+ghost use Rattle.cpfactor_top.specs.Answers.{text_limit, file_of, answers_of, IsBytesAnswer, IsFileAnswer, IsAnswer, IsRequestDue, YieldsTo, YieldsToReading, outside};
 
 use crate::command::{Command, Usage};
 use crate::ended::{Cause, Ended};
@@ -31,7 +31,8 @@ const TEXT_LIMIT: usize = 1_048_576;
 /// `minimum_alone` does.
 pub fn run<F: Files, K: Sink>(alloc: Global, words: &[String], files: &mut F, sink: &mut K) -> Ended
     ensures status { HasStatus result }
-    // The ending is that of an answer, whose text is written; or a front of it, where the sink failed or memory was wanting.
+    // The ending is that of an answer, whose text is written; or the sink failed or memory was wanting, and a front of that
+    // text is, or of the line `refused memory`.
     ensures ended { EndsBy (IsAnswer (texts words.now) (outside (F.told files.old) (F.faults files.old) (F.faults files.new))) (outlet (K.told sink.old) (K.told sink.new) (K.faults sink.old) (K.faults sink.new)) result }
     // Faulty words are refused at the position of their first fault.
     ensures usage { (position : ℕ) → IsUsageAt (texts words.now) position → YieldsTo (ending (usage position)) result }
@@ -107,7 +108,7 @@ fn answer_command<F: Files, K: Sink>(
 /// Does what a command asks for with the bytes of its file.
 fn answer_bytes<K: Sink>(alloc: Global, command: Command<'_>, bytes: &[u8], sink: &mut K) -> Ended
     requires ranges { HasRanges (request_of command) }
-    requires bytes { length bytes.now ≤ 1048576 }
+    requires bytes { length bytes.now ≤ text_limit }
     ensures { EndsBy (IsBytesAnswer (answers_of (request_of command.entry)) bytes.now) (outlet (K.told sink.old) (K.told sink.new) (K.faults sink.old) (K.faults sink.new)) result }
 {
     match command {

@@ -1,17 +1,17 @@
 //! Reading the words after a command's name, by the command's row.
 
-ghost use Rattle.std.specs.Prelude.{◌≡◌, ◌+◌, ◌<◌, ◌≤◌, true, length, Some, None, option_map, IfOk, IfErr};
+ghost use Rattle.std.specs.Prelude.{◌≡◌, ◌+◌, ◌*◌, ◌<◌, ◌≤◌, true, length, Some, None, option_map, IfOk, IfErr};
 ghost use Rattle.std.specs.List.{list_all, list_any};
 ghost use Rattle.std.specs.Str.{bytes_eq};
 ghost use Rattle.cpfactor_top.specs.Reading.{is_option, can_be_read, fault_place, option_value};
 ghost use Rattle.cpfactor_top.specs.Requests.{texts, plain_of, options_of, IsNumberOption};
-ghost use Rattle.cpfactor_top.specs.Readers.{HasRead, ArePlaces};
+ghost use Rattle.cpfactor_top.specs.Readers.{most_plain, HasRead, ArePlaces};
 
 use crate::command::Usage;
 use crate::row::{CommandRow, Form, is_option, number};
 
 /// The most plain arguments that a command has.
-pub const MOST_PLAIN: usize = 3;
+pub const MOST_PLAIN: usize = 1;
 
 /// What was read so far of the words after a command's name.
 #[derive(Clone, Copy)]
@@ -46,7 +46,7 @@ impl Reader {
     /// Reads the next word, at `place`.
     fn advance(&mut self, row: &CommandRow, words: &[String], place: usize)
         requires within { place < length words.now }
-        requires few { length row.now.plain.now ≤ 3 }
+        requires few { length row.now.plain.now ≤ most_plain }
         requires stands { HasRead row.now (texts words.now) place self.old }
         requires reads { can_be_read (plain_of row.now) (options_of row.now) (texts words.now) place ≡ true }
         ensures { HasRead row.now (texts words.now) (place + 1) self.new }
@@ -72,9 +72,9 @@ fn is_among(word: &str, words: &[String]) -> bool
 /// Refused at the position of the first word that cannot be read, or of the word that is missing.
 pub fn plain_places(row: &CommandRow, words: &[String]) -> Result<[usize; MOST_PLAIN], Usage>
     requires named { list_all (λ o. is_option o.name) (options_of row.now) ≡ true }
-    requires few_plain { length row.now.plain.now ≤ 3 }
-    // So few words can be read that each position fits.
-    requires few_options { length row.now.options.now ≤ 13 }
+    requires few_plain { length row.now.plain.now ≤ most_plain }
+    // At most so many words can be read: each plain argument once, and each option with its number. So each position fits.
+    requires few_words { length row.now.plain.now + 2 * length row.now.options.now ≤ 30 }
     ensures read { IfOk result (λ places. ArePlaces row.now (texts words.now) places) }
     ensures usage { IfErr result (λ usage. option_map (λ place. place + 2) (fault_place (plain_of row.now) (options_of row.now) (texts words.now)) ≡ Some usage.position) }
 {

@@ -1,6 +1,6 @@
 //! Answers of one line, and what is written where memory is wanting.
 
-ghost use Rattle.std.specs.Prelude.{◌≡◌, ◌++◌, map};
+ghost use Rattle.std.specs.Prelude.{◌++◌, map};
 ghost use Rattle.std.specs.Fmt.{decimal};
 ghost use Rattle.cpfactor_top.specs.Ending.{ending};
 ghost use Rattle.cpfactor_top.specs.declared.ended.Cause.TheVariants.{Overflow};
@@ -112,6 +112,7 @@ fn refuse_entry<K: Sink>(alloc: Global, sink: &mut K, at: WideAt) -> Ended
     ensures { EndsBy (IsOnly (ending (Overflow (Gram at))) (owed_text (Gram at))) (outlet (K.told sink.old) (K.told sink.new) (K.faults sink.old) (K.faults sink.new)) result }
 {
     let WideAt { path, entry } = at;
+    // `at` is put together again, since the borrow checker moves a struct that holds a `Path`, `Copy` though it is.
     let cause = Cause::Overflow(Owed::Gram {
         at: WideAt { path, entry },
     });

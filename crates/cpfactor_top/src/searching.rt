@@ -1,11 +1,11 @@
 //! The commands `minimum` and `copositive`.
 
-ghost use Rattle.std.specs.Prelude.{◌≡◌, ◌≤◌, ◌≤ℤ◌, pos, length};
+ghost use Rattle.std.specs.Prelude.{◌≤◌, ◌≤ℤ◌, pos, length};
 ghost use Rattle.cpfactor_top.specs.declared.ended.Ended.{Ended as an_ending};
 ghost use Rattle.cpfactor_top.specs.Endings.{EndsBy, outlet};
 ghost use Rattle.cpfactor_top.specs.Ending.{HasStatus};
 ghost use Rattle.cpfactor_top.specs.Searching.{IsFound, IsSearched, IsSearchDue};
-ghost use Rattle.cpfactor_top.specs.Answers.{IsBytesAnswer, IsBytesDue, YieldsTo};
+ghost use Rattle.cpfactor_top.specs.Answers.{text_limit, IsBytesAnswer, IsBytesDue, YieldsTo};
 
 use crate::ended::{Ended, Owed};
 use crate::found::{put_copositive, put_depth, put_low, put_minimum};
@@ -35,10 +35,11 @@ pub fn minimum_alone<K: Sink>(
     depth: u8,
     sink: &mut K,
 ) -> Ended
-    requires bytes { length bytes.now ≤ 1048576 }
+    requires bytes { length bytes.now ≤ text_limit }
     requires depth { depth ≤ 200 }
     ensures status { HasStatus result }
-    // The ending is that of an answer, whose text is written; or a front of it, where the sink failed or memory was wanting.
+    // The ending is that of an answer, whose text is written; or the sink failed or memory was wanting, and a front of that
+    // text is, or of the line `refused memory`.
     ensures ended { EndsBy (IsBytesAnswer (IsSearched mode depth) bytes.now) (outlet (K.told sink.old) (K.told sink.new) (K.faults sink.old) (K.faults sink.new)) result }
     // Each ending comes where it is due.
     ensures due { (e : an_ending) → IsBytesDue (IsSearchDue mode depth) bytes.now e → YieldsTo e result }
@@ -48,7 +49,7 @@ pub fn minimum_alone<K: Sink>(
 
 /// Reads a matrix text and searches its matrix.
 fn search_bytes<K: Sink>(alloc: Global, bytes: &[u8], mode: Mode, depth: u8, sink: &mut K) -> Ended
-    requires bytes { length bytes.now ≤ 1048576 }
+    requires bytes { length bytes.now ≤ text_limit }
     requires depth { depth ≤ 200 }
     ensures { EndsBy (IsBytesAnswer (IsSearched mode depth) bytes.now) (outlet (K.told sink.old) (K.told sink.new) (K.faults sink.old) (K.faults sink.new)) result }
 {

@@ -5,7 +5,7 @@ ghost use Rattle.cpfactor_top.specs.declared.ended.Ended.{Ended as an_ending};
 ghost use Rattle.cpfactor_top.specs.Endings.{EndsBy, outlet};
 ghost use Rattle.cpfactor_top.specs.Ending.{HasStatus};
 ghost use Rattle.cpfactor_top.specs.Solving.{IsSolved, IsSolveDue};
-ghost use Rattle.cpfactor_top.specs.Answers.{IsBytesAnswer, IsBytesDue, YieldsTo};
+ghost use Rattle.cpfactor_top.specs.Answers.{text_limit, IsBytesAnswer, IsBytesDue, YieldsTo};
 ghost use Rattle.symmetric_matrix.specs.Owed.{answer, first_owed};
 ghost use Rattle.symmetric_matrix.specs.Symmetric.{entry};
 ghost use Rattle.symmetric_matrix.specs.StartWeights.{start_weights};
@@ -32,9 +32,10 @@ use symmetric_matrix::SymInt;
 /// with `Fine` where it lies in the start cone, with `WriteFault` only where the sink failed, and with `Memory` where memory
 /// was wanting. It always returns.
 pub fn solve_alone<K: Sink>(alloc: Global, bytes: &[u8], sink: &mut K) -> Ended
-    requires { length bytes.now ≤ 1048576 }
+    requires { length bytes.now ≤ text_limit }
     ensures status { HasStatus result }
-    // The ending is that of an answer, whose text is written; or a front of it, where the sink failed or memory was wanting.
+    // The ending is that of an answer, whose text is written; or the sink failed or memory was wanting, and a front of that
+    // text is, or of the line `refused memory`.
     ensures ended { EndsBy (IsBytesAnswer IsSolved bytes.now) (outlet (K.told sink.old) (K.told sink.new) (K.faults sink.old) (K.faults sink.new)) result }
     // Each ending comes where it is due.
     ensures due { (e : an_ending) → IsBytesDue IsSolveDue bytes.now e → YieldsTo e result }
@@ -44,7 +45,7 @@ pub fn solve_alone<K: Sink>(alloc: Global, bytes: &[u8], sink: &mut K) -> Ended
 
 /// Reads a matrix text and factors its matrix.
 fn solve_bytes<K: Sink>(alloc: Global, bytes: &[u8], sink: &mut K) -> Ended
-    requires { length bytes.now ≤ 1048576 }
+    requires { length bytes.now ≤ text_limit }
     ensures { EndsBy (IsBytesAnswer IsSolved bytes.now) (outlet (K.told sink.old) (K.told sink.new) (K.faults sink.old) (K.faults sink.new)) result }
 {
     match read_or_refuse(alloc, bytes, sink) {

@@ -6,7 +6,8 @@ use std::alloc::{AllocError, Global};
 use std::test::Fail;
 use unimodular_cone::Mode;
 
-fn words_of(alloc: Global, line: &str) -> Result<Vec<String>, AllocError> {
+/// The words of a line.
+pub fn words_of(alloc: Global, line: &str) -> Result<Vec<String>, AllocError> {
     let mut words = Vec::new(alloc);
     for word in line.split_whitespace() {
         words.push(String::from_str(alloc, word)?)?;
@@ -66,80 +67,82 @@ const DEEP: &str = "cpmatrix 1 3\n10 -6 -7\n-6 4 5\n-7 5 20\n";
 
 const NARROW: &str = "cpmatrix 1 2\n2 -3\n-3 6\n";
 
+/// A command line, the text of its file, the exit status, and what is written.
+const SEARCHES: [(&str, &str, u8, &str); 14] = [
+    (
+        "minimum a",
+        "cpmatrix 1 3\n2 -1 0\n-1 2 -1\n0 -1 2\n",
+        0,
+        "minimum 2/1\nvectors 6\n0 0 1\n0 1 0\n0 1 1\n1 0 0\n1 1 0\n1 1 1\n",
+    ),
+    (
+        "minimum a",
+        "cpmatrix 1 2\n1/2 0\n0 1/3\n",
+        0,
+        "minimum 1/3\nvectors 1\n0 1\n",
+    ),
+    (
+        "minimum a",
+        "cpmatrix 1 2\n1 -1\n-1 1\n",
+        10,
+        "low value 0/1 path 0 vector 1 1\n",
+    ),
+    ("minimum a --depth 1", DEEP, 4, "refused depth 0\n"),
+    ("minimum --depth 2 a", DEEP, 4, "refused depth 10\n"),
+    (
+        "minimum a --depth 3",
+        DEEP,
+        0,
+        "minimum 2/1\nvectors 2\n1 1 0\n1 2 0\n",
+    ),
+    ("minimum a --depth 1", NARROW, 4, "refused depth 1\n"),
+    (
+        "minimum a --depth 2",
+        NARROW,
+        0,
+        "minimum 2/1\nvectors 3\n1 0\n1 1\n2 1\n",
+    ),
+    (
+        "minimum a",
+        "cpmatrix 1 2\n9223372036854775807 1/2\n1/2 9223372036854775807\n",
+        6,
+        "refused overflow Bound 18446744073709551614\n",
+    ),
+    (
+        "minimum a",
+        "cpmatrix 1 2\n9223372036854775807 0\n0 1/9223372036854775806\n",
+        6,
+        "refused overflow Gram - gram 1 1\n",
+    ),
+    (
+        "copositive a",
+        "cpmatrix 1 2\n0 1\n1 0\n",
+        0,
+        "copositive 2\n",
+    ),
+    (
+        "copositive a",
+        "cpmatrix 1 2\n2 -1\n-1 0\n",
+        10,
+        "low value -2/1 path 00 vector 1 2\n",
+    ),
+    (
+        "copositive a --depth 0",
+        "cpmatrix 1 2\n2 -1\n-1 0\n",
+        4,
+        "refused depth -\n",
+    ),
+    (
+        "copositive a",
+        "cpmatrix 1 1\n1/0\n",
+        3,
+        "refused text ZeroDenominator 2\n",
+    ),
+];
+
 #[test]
 fn searches_end_with_a_minimum_a_low_value_or_a_refusal(rt: HostRuntime) -> Result<(), Fail> {
-    let cases = [
-        (
-            "minimum a",
-            "cpmatrix 1 3\n2 -1 0\n-1 2 -1\n0 -1 2\n",
-            0,
-            "minimum 2/1\nvectors 6\n0 0 1\n0 1 0\n0 1 1\n1 0 0\n1 1 0\n1 1 1\n",
-        ),
-        (
-            "minimum a",
-            "cpmatrix 1 2\n1/2 0\n0 1/3\n",
-            0,
-            "minimum 1/3\nvectors 1\n0 1\n",
-        ),
-        (
-            "minimum a",
-            "cpmatrix 1 2\n1 -1\n-1 1\n",
-            10,
-            "low value 0/1 path 0 vector 1 1\n",
-        ),
-        ("minimum a --depth 1", DEEP, 4, "refused depth 0\n"),
-        ("minimum --depth 2 a", DEEP, 4, "refused depth 10\n"),
-        (
-            "minimum a --depth 3",
-            DEEP,
-            0,
-            "minimum 2/1\nvectors 2\n1 1 0\n1 2 0\n",
-        ),
-        ("minimum a --depth 1", NARROW, 4, "refused depth 1\n"),
-        (
-            "minimum a --depth 2",
-            NARROW,
-            0,
-            "minimum 2/1\nvectors 3\n1 0\n1 1\n2 1\n",
-        ),
-        (
-            "minimum a",
-            "cpmatrix 1 2\n9223372036854775807 1/2\n1/2 9223372036854775807\n",
-            6,
-            "refused overflow Bound 18446744073709551614\n",
-        ),
-        (
-            "minimum a",
-            "cpmatrix 1 2\n9223372036854775807 0\n0 1/9223372036854775806\n",
-            6,
-            "refused overflow Gram - gram 1 1\n",
-        ),
-        (
-            "copositive a",
-            "cpmatrix 1 2\n0 1\n1 0\n",
-            0,
-            "copositive 2\n",
-        ),
-        (
-            "copositive a",
-            "cpmatrix 1 2\n2 -1\n-1 0\n",
-            10,
-            "low value -2/1 path 00 vector 1 2\n",
-        ),
-        (
-            "copositive a --depth 0",
-            "cpmatrix 1 2\n2 -1\n-1 0\n",
-            4,
-            "refused depth -\n",
-        ),
-        (
-            "copositive a",
-            "cpmatrix 1 1\n1/0\n",
-            3,
-            "refused text ZeroDenominator 2\n",
-        ),
-    ];
-    for (line, text, status, expected) in cases {
+    for (line, text, status, expected) in SEARCHES {
         let mut sink = MemSink::with_room(rt.alloc(), 200)?;
         let ended = status_after(rt.alloc(), line, text.as_bytes(), &mut sink)?;
         assert_eq!(rt; ended, status, "at {line} {text}");

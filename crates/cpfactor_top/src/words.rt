@@ -1,8 +1,8 @@
 //! Reading a command line.
 
-ghost use Rattle.std.specs.Prelude.{◌≡◌, ℕ, ◌≤◌, List, Some, None, Ok, Err, IfOk, IfErr};
-ghost use Rattle.cpfactor_top.specs.Reading.{fault_place};
-ghost use Rattle.cpfactor_top.specs.Commands.{Request, HasRanges, IsCommandLine, IsUsageAt, IsReadOneWay, read_as, solve, minimum, copositive, depth_of};
+ghost use Rattle.std.specs.Prelude.{◌≡◌, ℕ, ◌+◌, ◌≤◌, List, Some, None, Ok, Err, IfOk, IfErr, option_map};
+ghost use Rattle.cpfactor_top.specs.Reading.{fault_place, plain_argument};
+ghost use Rattle.cpfactor_top.specs.Commands.{HasRanges, IsCommandLine, IsUsageAt, IsReadOneWay, read_as, solve, minimum, copositive, depth_of};
 ghost use Rattle.cpfactor_top.specs.Requests.{texts, request_of};
 
 use crate::command::{Command, Usage};
@@ -57,7 +57,7 @@ fn solve(words: &[String]) -> Result<Command<'_>, Usage>
     ensures ranges { IfOk result (λ command. HasRanges (request_of command)) }
     ensures usage { IfErr result (λ usage. read_as (Some solve) (texts words.now) ≡ Err usage.position) }
 {
-    let [file, ..] = plain_places(&SOLVE_ROW, words)?;
+    let [file] = plain_places(&SOLVE_ROW, words)?;
     Ok(Command::Solve {
         file: words[file].as_str(),
     })
@@ -69,11 +69,8 @@ fn minimum(words: &[String]) -> Result<Command<'_>, Usage>
     ensures ranges { IfOk result (λ command. HasRanges (request_of command)) }
     ensures usage { IfErr result (λ usage. read_as (Some minimum) (texts words.now) ≡ Err usage.position) }
 {
-    let [file, ..] = plain_places(&SEARCH_ROW, words)?;
-    Ok(Command::Minimum {
-        file: words[file].as_str(),
-        depth: depth(words),
-    })
+    let (file, depth) = file_and_depth(words)?;
+    Ok(Command::Minimum { file, depth })
 }
 
 /// The command `copositive` with these words after its name.
@@ -82,11 +79,20 @@ fn copositive(words: &[String]) -> Result<Command<'_>, Usage>
     ensures ranges { IfOk result (λ command. HasRanges (request_of command)) }
     ensures usage { IfErr result (λ usage. read_as (Some copositive) (texts words.now) ≡ Err usage.position) }
 {
-    let [file, ..] = plain_places(&SEARCH_ROW, words)?;
-    Ok(Command::Copositive {
-        file: words[file].as_str(),
-        depth: depth(words),
-    })
+    let (file, depth) = file_and_depth(words)?;
+    Ok(Command::Copositive { file, depth })
+}
+
+/// The file and the depth that the words of a search name.
+fn file_and_depth(words: &[String]) -> Result<(&str, u8), Usage>
+    ensures read { IfOk result (λ _. fault_place minimum.plain minimum.options (texts words.now) ≡ None) }
+    ensures file { IfOk result (λ named. named.0.now ≡ plain_argument minimum.options (texts words.now) 0) }
+    ensures depth { IfOk result (λ named. named.1 ≡ depth_of (texts words.now)) }
+    ensures within { IfOk result (λ named. named.1 ≤ 200) }
+    ensures usage { IfErr result (λ usage. option_map (λ place. place + 2) (fault_place minimum.plain minimum.options (texts words.now)) ≡ Some usage.position) }
+{
+    let [file] = plain_places(&SEARCH_ROW, words)?;
+    Ok((words[file].as_str(), depth(words)))
 }
 
 /// The depth that the words of a search name.
@@ -109,73 +115,105 @@ pub fn words_are_read_one_way()
 #[cfg(test)]
 mod tests {
     use super::*;
-    use std::alloc::{AllocError, Global};
+    use crate::tests::words_of;
     use std::test::Fail;
 
-    fn words_of(alloc: Global, line: &str) -> Result<Vec<String>, AllocError> {
-        let mut words = Vec::new(alloc);
-        for word in line.split_whitespace() {
-            words.push(String::from_str(alloc, word)?)?;
+    /// Each with the command that it asks for.
+    const READ: [(&str, Command<'static>); 9] = [
+        ("solve a", Command::Solve { file: "a" }),
+        ("solve -", Command::Solve { file: "-" }),
+        ("solve -a", Command::Solve { file: "-a" }),
+        (
+            "minimum a",
+            Command::Minimum {
+                file: "a",
+                depth: 60,
+            },
+        ),
+        (
+            "minimum a --depth 5",
+            Command::Minimum {
+                file: "a",
+                depth: 5,
+            },
+        ),
+        (
+            "minimum --depth 0 a",
+            Command::Minimum {
+                file: "a",
+                depth: 0,
+            },
+        ),
+        (
+            "minimum a --depth 200",
+            Command::Minimum {
+                file: "a",
+                depth: 200,
+            },
+        ),
+        (
+            "copositive a",
+            Command::Copositive {
+                file: "a",
+                depth: 60,
+            },
+        ),
+        (
+            "copositive --depth 5 a",
+            Command::Copositive {
+                file: "a",
+                depth: 5,
+            },
+        ),
+    ];
+
+    /// Each with the position of its first fault.
+    const FAULTY: [(&str, u32); 29] = [
+        ("", 1),
+        ("sum a", 1),
+        ("minimum", 2),
+        ("Solve a", 1),
+        ("--trace solve a", 1),
+        ("solve", 2),
+        ("solve --trace", 2),
+        ("solve --", 2),
+        ("solve --trace a", 2),
+        ("solve a b", 3),
+        ("solve a --depth 201", 3),
+        ("solve a --x=1", 3),
+        ("solve a b --x", 3),
+        ("minimum a --depth 201", 4),
+        ("minimum a --depth 01", 4),
+        ("minimum a --depth +5", 4),
+        ("minimum a --depth -5", 4),
+        ("minimum a --depth 18446744073709551621", 4),
+        ("minimum a --depth", 4),
+        ("minimum --depth 5", 4),
+        ("minimum --depth a", 3),
+        ("minimum a --depth 5 --depth 6", 5),
+        ("minimum a --depth 5 b", 5),
+        ("minimum a --depth=5", 3),
+        ("minimum a --trace", 3),
+        ("minimum a --depth --depth", 4),
+        ("copositive a b", 3),
+        ("copositive", 2),
+        ("copositive --", 2),
+    ];
+
+    #[test]
+    fn command_lines_are_read(rt: HostRuntime) -> Result<(), Fail> {
+        for (line, command) in READ {
+            let words = words_of(rt.alloc(), line)?;
+            assert_eq!(rt; read_words(&words), Ok(command), "at {line}");
         }
-        Ok(words)
-    }
-
-    fn minimum_of(file: &str, depth: u8) -> Result<Command<'_>, Usage> {
-        Ok(Command::Minimum { file, depth })
-    }
-
-    fn copositive_of(file: &str, depth: u8) -> Result<Command<'_>, Usage> {
-        Ok(Command::Copositive { file, depth })
+        Ok(())
     }
 
     #[test]
-    fn command_lines_are_read_to_their_first_fault(rt: HostRuntime) -> Result<(), Fail> {
-        let cases = [
-            ("solve a", Ok(Command::Solve { file: "a" })),
-            ("solve -", Ok(Command::Solve { file: "-" })),
-            ("solve -a", Ok(Command::Solve { file: "-a" })),
-            ("minimum a", minimum_of("a", 60)),
-            ("minimum a --depth 5", minimum_of("a", 5)),
-            ("minimum --depth 0 a", minimum_of("a", 0)),
-            ("minimum a --depth 200", minimum_of("a", 200)),
-            ("copositive a", copositive_of("a", 60)),
-            ("copositive --depth 5 a", copositive_of("a", 5)),
-            ("", Err(Usage { position: 1 })),
-            ("sum a", Err(Usage { position: 1 })),
-            ("minimum", Err(Usage { position: 2 })),
-            ("Solve a", Err(Usage { position: 1 })),
-            ("--trace solve a", Err(Usage { position: 1 })),
-            ("solve", Err(Usage { position: 2 })),
-            ("solve --trace", Err(Usage { position: 2 })),
-            ("solve --", Err(Usage { position: 2 })),
-            ("solve --trace a", Err(Usage { position: 2 })),
-            ("solve a b", Err(Usage { position: 3 })),
-            ("solve a --depth 201", Err(Usage { position: 3 })),
-            ("solve a --x=1", Err(Usage { position: 3 })),
-            ("solve a b --x", Err(Usage { position: 3 })),
-            ("minimum a --depth 201", Err(Usage { position: 4 })),
-            ("minimum a --depth 01", Err(Usage { position: 4 })),
-            ("minimum a --depth +5", Err(Usage { position: 4 })),
-            ("minimum a --depth -5", Err(Usage { position: 4 })),
-            (
-                "minimum a --depth 18446744073709551621",
-                Err(Usage { position: 4 }),
-            ),
-            ("minimum a --depth", Err(Usage { position: 4 })),
-            ("minimum --depth 5", Err(Usage { position: 4 })),
-            ("minimum --depth a", Err(Usage { position: 3 })),
-            ("minimum a --depth 5 --depth 6", Err(Usage { position: 5 })),
-            ("minimum a --depth 5 b", Err(Usage { position: 5 })),
-            ("minimum a --depth=5", Err(Usage { position: 3 })),
-            ("minimum a --trace", Err(Usage { position: 3 })),
-            ("minimum a --depth --depth", Err(Usage { position: 4 })),
-            ("copositive a b", Err(Usage { position: 3 })),
-            ("copositive", Err(Usage { position: 2 })),
-            ("copositive --", Err(Usage { position: 2 })),
-        ];
-        for (line, expected) in cases {
+    fn faulty_lines_are_read_to_their_first_fault(rt: HostRuntime) -> Result<(), Fail> {
+        for (line, position) in FAULTY {
             let words = words_of(rt.alloc(), line)?;
-            assert_eq!(rt; read_words(&words), expected, "at {line}");
+            assert_eq!(rt; read_words(&words), Err(Usage { position }), "at {line}");
         }
         Ok(())
     }

@@ -150,7 +150,7 @@ pairing_of_terms n w (term ∷ terms) =
 first_of : (P : WeightedVector → Type 0) (term : WeightedVector) (terms : List WeightedVector) → All P (term ∷ terms) → P term
 first_of P term terms h = h 0 term (omega arith)
 
-others_of : (P : WeightedVector → Type 0) (term : WeightedVector) (terms : List WeightedVector) → All P (term ∷ terms) → All P terms
+pub others_of : (P : WeightedVector → Type 0) (term : WeightedVector) (terms : List WeightedVector) → All P (term ∷ terms) → All P terms
 others_of P term terms h = λ k d l. h (suc k) d (omega arith)
 
 values_nonneg : (n : ℕ) (w : Matrix) (terms : List WeightedVector) → IsCopositive n w → All (λ term. IsPositive term.weight) terms → All (λ term. length term.vector ≡ n) terms → IsNonnegative (weighted_values n w terms)

@@ -1,5 +1,5 @@
 -- Leaving out the terms of weight 0 makes a factorization.
-use Rattle.std.specs.Prelude.{◌≡◌, ◌≢◌, ℕ, suc, ◌<◌, ℤ, pos, ◌*ℤ◌, ◌≤ℤ◌, Bool, true, false, int_lt, List, [], ◌∷◌, length, filter, cond, slice_index_or}
+use Rattle.std.specs.Prelude.{◌≡◌, ◌≢◌, ℕ, ◌<◌, ℤ, pos, ◌*ℤ◌, ◌≤ℤ◌, Bool, true, false, int_lt, List, [], ◌∷◌, length, filter, cond, slice_index_or}
 use Rattle.std.specs.List.{All}
 use Rattle.std.proofs.Common.{refl, sym, ap, ◌∙◌, subst, arith}
 use Rattle.std.proofs.lemmas.Int.{ints}
@@ -13,10 +13,7 @@ use Rattle.exact_forms.specs.PositiveTerms.{has_weight, positive_terms, IsInOrde
 use Rattle.exact_forms.proofs.Rational.{zero_mul_ℚ, zero_add_ℚ}
 use Rattle.exact_forms.proofs.Signs.{neg_positive}
 use Rattle.exact_forms.proofs.Vectors.{before_irreflexive}
-use Rattle.exact_forms.proofs.Factors.{weighted_sum-cons}
-
-others_of : (P : WeightedVector → Type 0) (term : WeightedVector) (terms : List WeightedVector) → All P (term ∷ terms) → All P terms
-others_of P term terms h = λ k d l. h (suc k) d (omega arith)
+use Rattle.exact_forms.proofs.Factors.{weighted_sum-cons, others_of}
 
 not_over : (n : ℤ) → int_lt (pos 0) n ≡ false → n ≤ℤ pos 0
 not_over n e = grind (arith, ints)

@@ -10,8 +10,8 @@ use Rattle.exact_forms.proofs.Rational.{ring_ℚ, ratio_value, ratio_parts, rati
 use Rattle.exact_forms.proofs.Order.{mul_le_left, le_of_mul_le_left, positive_mul}
 use Rattle.exact_forms.proofs.Signs.{positive-ratio, nonneg-ratio, positive_add, nonneg_add}
 
-positive_ℤ : (n : ℕ) → 0 < n → pos 1 ≤ℤ pos n
-positive_ℤ n h = omega (arith, ints)
+pub at_least_one : (n : ℕ) → 0 < n → pos 1 ≤ℤ pos n
+at_least_one n h = omega (arith, ints)
 
 -- n/k and p/d are one number, so they compare alike
 carried : (n k m l p r d e : ℤ) → pos 1 ≤ℤ d → pos 1 ≤ℤ e → pos 1 ≤ℤ k → pos 1 ≤ℤ l
@@ -34,10 +34,10 @@ pub le-ratio : (p r : ℤ) (d e : ℕ) → 0 < d → 0 < e → (ratio p d ≤ℚ
 le-ratio p r d e hd he =
     let x : Rational = ratio p d in
     let y : Rational = ratio r e in
-    let xd = positive_ℤ x.den (den_positive x) in
-    let yd = positive_ℤ y.den (den_positive y) in
-    let pd = positive_ℤ d hd in
-    let pe = positive_ℤ e he in (
+    let xd = at_least_one x.den (den_positive x) in
+    let yd = at_least_one y.den (den_positive y) in
+    let pd = at_least_one d hd in
+    let pe = at_least_one e he in (
       λ h. carried x.num (pos x.den) y.num (pos y.den) p r (pos d) (pos e) pd pe xd yd (ratio_value p d hd) (ratio_value r e he) h.crosswise,
       λ h. record { crosswise = carried_back p r (pos d) (pos e) x.num y.num (pos x.den) (pos y.den) pd pe xd yd (ratio_value p d hd) (ratio_value r e he) h },
     )

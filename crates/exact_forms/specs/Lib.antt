@@ -13,3 +13,4 @@ pub mod RankOne
 pub mod Neighbours
 pub mod PositiveTerms
 pub mod Lowest
+pub mod Theorems

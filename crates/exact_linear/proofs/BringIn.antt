@@ -3,11 +3,13 @@ use Rattle.std.specs.Prelude.{◌≡◌, ◌≢◌, ℕ, zero, suc, ◌+◌, ◌
 use Rattle.std.proofs.Common.{arith, sym, ◌∙◌, ap, refl, subst, inl, inr}
 use Rattle.exact_forms.specs.Rational.{Rational, whole}
 use Rattle.exact_forms.proofs.Lowest.{zero_num}
-use Rattle.symmetric_matrix.specs.Owed.{answer}
-use Rattle.symmetric_matrix.proofs.Owed.{answer-append_err, answer-append_ok, answer_nothing}
+use Rattle.symmetric_matrix.specs.Owed.{answer, first_owed}
+use Rattle.symmetric_matrix.proofs.Owed.{answer-append_err, answer-append_ok, answer_nothing, none_of_ok, some_of_err}
 use Rattle.exact_linear.specs.declared.entry.EntryOp.{EntryOp}
 use Rattle.exact_linear.specs.Tables.{Table, rows_of, table_entry, basic_at, first_place}
-use Rattle.exact_linear.specs.Exchange.{entry_is_owed, exchange_ops, exchanged, is_zero, takes, first_row, brought_in, bring_ops, first_bases, first_ops}
+use Rattle.exact_forms.specs.Coordinates.{Columns}
+use Rattle.exact_linear.specs.Columns.{HasCoordinates}
+use Rattle.exact_linear.specs.Exchange.{entry_is_owed, exchange_ops, exchanged, is_zero, takes, first_row, brought_in, bring_ops, first_bases, first_ops, IsStopped}
 use Rattle.exact_linear.proofs.Places.{first_found, first_none}
 use Rattle.exact_linear.proofs.Exchanges.{exchanged_width, exchanged_rows}
 
@@ -130,9 +132,12 @@ first_refused t k (suc n) err h l = by (last_or_before k n l) (λ m. first_refus
 pub record IsSoFar (t now : Table) (k : ℕ) : Type 0 where
   pub table : now ≡ first_bases t k
   pub owes : answer entry_is_owed (first_ops t k) (tt {0}) ≡ Ok (tt {0})
+  pub coordinates : (A : Columns) → HasCoordinates A t → HasCoordinates A now
 
 pub so_far_none : (t : Table) → IsSoFar t t 0
-so_far_none t = let e = first_bases_none t in record { table = sym e.0; owes = ap (λ (ops : List EntryOp). answer entry_is_owed ops (tt {0})) e.1 ∙ answer_nothing entry_is_owed (tt {0}) }
+so_far_none t =
+    let e = first_bases_none t in
+    record { table = sym e.0; owes = ap (λ (ops : List EntryOp). answer entry_is_owed ops (tt {0})) e.1 ∙ answer_nothing entry_is_owed (tt {0}); coordinates = λ A h. h }
 
 pub so_far_ops : (t now : Table) (k : ℕ) → IsSoFar t now k → answer entry_is_owed (first_ops t (k + 1)) (tt {0}) ≡ answer entry_is_owed (bring_ops now (rows_of t + k)) (tt {0})
 so_far_ops t now k S =
@@ -143,10 +148,24 @@ so_far_ops t now k S =
 pub so_far_refused : (t now : Table) (k n : ℕ) (err : EntryOp) → IsSoFar t now k → k < n → answer entry_is_owed (bring_ops now (rows_of t + k)) (tt {0}) ≡ Err err → answer entry_is_owed (first_ops t n) (tt {0}) ≡ Err err
 so_far_refused t now k n err S l h = first_refused t (k + 1) n err (so_far_ops t now k S ∙ h) (omega arith)
 
-pub so_far_more : (t now new : Table) (k : ℕ) → IsSoFar t now k → answer entry_is_owed (bring_ops now (rows_of t + k)) (tt {0}) ≡ Ok (tt {0}) → new ≡ brought_in now (rows_of t + k) → IsSoFar t new (k + 1)
-so_far_more t now new k S h e = record {
+pub so_far_more : (t now new : Table) (k : ℕ) → IsSoFar t now k → answer entry_is_owed (bring_ops now (rows_of t + k)) (tt {0}) ≡ Ok (tt {0}) → new ≡ brought_in now (rows_of t + k)
+    → ((A : Columns) → HasCoordinates A now → HasCoordinates A new) → IsSoFar t new (k + 1)
+so_far_more t now new k S h e c = record {
   table = e ∙ ap (λ (now : Table). brought_in now (rows_of t + k)) S.table ∙ sym (first_bases_more t k).0;
   owes = so_far_ops t now k S ∙ h;
+  coordinates = λ A H. c A (S.coordinates A H);
+}
+
+pub so_far_stopped : (t now new : Table) (k n : ℕ) (err : EntryOp) → IsSoFar t now k → k < n → new ≡ now → answer entry_is_owed (bring_ops now (rows_of t + k)) (tt {0}) ≡ Err err → IsStopped t n new
+so_far_stopped t now new k n err S l e h = record {
+  done = k;
+  below = l;
+  table = e ∙ S.table;
+  owes = (none_of_ok entry_is_owed (first_ops t k) (tt {0}) (tt {0}) S.owes).0;
+  refused = λ none.
+      let s = some_of_err entry_is_owed (bring_ops now (rows_of t + k)) (tt {0}) err h in
+      let f : first_owed entry_is_owed (bring_ops now (rows_of t + k)) ≡ None = ap (λ (t' : Table). first_owed entry_is_owed (bring_ops t' (rows_of t + k))) (sym e) ∙ none in
+      cc;
 }
 
 pub so_far_rows : (t now : Table) (k : ℕ) → IsSoFar t now k → (now.width ≡ t.width) × (rows_of now ≡ rows_of t)

@@ -36,9 +36,6 @@ pub record Filled (width : ℕ) (old now : List Rational) (k : ℕ) : Type 0 whe
 last_or_before : (m k : ℕ) → m < k + 1 → (m ≡ k) ⊎ (m < k)
 last_or_before m k l = grind arith
 
-pub fill_none : (width : ℕ) (old : List Rational) → Filled width old old 0
-fill_none width old = record { done = λ m l. absurd (omega arith); rest = λ m l. refl }
-
 pub fill_set : (width k : ℕ) (old now : List Rational) → k < length now → k % width + 1 ≡ width → Filled width old now k → Filled width old (set now k (whole (pos 1))) (k + 1)
 unfolding last_cell
 fill_set width k old now l e F = record {

@@ -5,14 +5,12 @@ use Rattle.exact_forms.proofs.RationalSums.{sum_ℚ_none}
 use Rattle.commutative_ring.proofs.Ring.{num, ◌⊕◌, ◌⊗◌, neg, v0, v1}
 use Rattle.exact_forms.specs.Slacks.{replaced}
 use Rattle.exact_forms.specs.Rational.{Rational, whole, inverse, neg_ℚ, ◌+ℚ◌, ◌*ℚ◌, ◌/ℚ◌}
-use Rattle.exact_forms.specs.Sums.{sum_ℚ}
 use Rattle.exact_forms.proofs.Rational.{zero_mul_ℚ, mul-inverse}
 use Rattle.exact_forms.proofs.Slacks.{replaced_here, replaced_other, same_or_not}
 use Rattle.exact_forms.proofs.Rational.{ring_ℚ}
 use Rattle.exact_forms.specs.Coordinates.{Columns, mark, swapped, exchanged}
 use Rattle.exact_linear.specs.FirstBasis.{IsCombinationBelow, IsFirstSoFar}
-use Rattle.exact_forms.proofs.Coordinates.{mul_zero_ℚ, mark_off, read_off, basis_mark, exchange_keeps, true_or_false}
-use Rattle.exact_forms.proofs.Signs.{positive_not_zero, one_positive}
+use Rattle.exact_forms.proofs.Coordinates.{mul_zero_ℚ, mark_off, read_off, exchange_keeps, true_or_false}
 
 zero_quotient : (x y : Rational) → x ≡ whole (pos 0) → x /ℚ y ≡ whole (pos 0)
 unfolding ◌/ℚ◌
@@ -117,23 +115,3 @@ module _ (A : Columns) (low c : ℕ) (B : ℕ → Bool) (coord : ℕ → ℕ →
           itself x n = quotient_self x n
       cleared j w a lw t (inr l) (inr n) =
           unchanged j w (S.cleared j u a l lu bu) ∙ S.cleared j w a l lw (sym (as_before w n (omega arith)) ∙ t)
-
--- where the vectors write each unit, no unit is left in the basis
-pub first_complete : (A : Columns) (low high : ℕ) (B : ℕ → Bool) (coord : ℕ → ℕ → Rational) → IsFirstSoFar A low high B coord → low ≤ high
-    → (u : ℕ) → u < low → u < A.count → (g : ℕ → Rational) → ((k : ℕ) → k < A.count → ((k < low) ⊎ (high ≤ k)) → g k ≡ whole (pos 0))
-    → ((a b : ℕ) → a < A.size → b < A.size → sum_ℚ A.count (λ k. g k *ℚ A.entry k a b) ≡ A.entry u a b) → B u ≡ false
-first_complete A low high B coord S lo u lu lc g outside sums = by (true_or_false (B u))
-  where
-    where_is : (j : ℕ) → ((j < low) ⊎ (high ≤ j)) ⊎ ((low ≤ j) × (j < high))
-    where_is j = grind arith
-
-    each : B u ≡ true → (j : ℕ) → j < A.count → (((j < low) ⊎ (high ≤ j)) ⊎ ((low ≤ j) × (j < high))) → g j *ℚ coord j u ≡ whole (pos 0)
-    each b j lj (inl o) = ap (λ w. w *ℚ coord j u) (outside j lj o) ∙ zero_mul_ℚ (coord j u)
-    each b j lj (inr i) = ap (λ w. g j *ℚ w) (S.cleared j u i.0 i.1 lu b) ∙ mul_zero_ℚ (g j)
-
-    by : ((B u ≡ true) ⊎ (B u ≡ false)) → B u ≡ false
-    by (inr f) = f
-    by (inl b) = absurd (positive_not_zero (whole (pos 1)) one_positive
-        (sym (basis_mark A B coord S.basis u lc b u lc ∙ replaced_here (λ k. whole (pos 0)) u (whole (pos 1)) u refl)
-        ∙ read_off A B coord g (coord u) (A.entry u) S.basis (S.basis.written u lc) sums u lc
-        ∙ sum_ℚ_none A.count _ (λ j lj. each b j lj (where_is j))))

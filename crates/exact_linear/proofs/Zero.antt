@@ -6,7 +6,6 @@ use native.Mathlib.Nat.{zero-div, div-one, div_self}
 use Rattle.commutative_ring.specs.Gcd.{gcd_of, gcd_steps}
 use Rattle.commutative_ring.proofs.Lowest.{divided}
 use Rattle.commutative_ring.proofs.Ring.{num, ◌⊕◌, ◌⊗◌, neg, v0}
-use Rattle.commutative_ring.proofs.Coprime.{gcd_comm}
 use Rattle.exact_forms.specs.Rational.{Rational, ratio, whole, neg_ℚ, ◌*ℚ◌, ◌-ℚ◌, ◌+ℚ◌}
 use Rattle.exact_forms.proofs.Rational.{ring_ℚ, den_positive}
 use Rattle.fraction128.specs.Recipes.{mul_ops, add_ops, sub_ops}
@@ -28,9 +27,6 @@ zero_den = refl
 
 neg_zero : neg_ℚ (whole (pos 0)) ≡ whole (pos 0)
 neg_zero = ring_ℚ [] (neg (num (pos 0))) (num (pos 0)) refl
-
-one_gcd_of : (a : ℕ) → gcd_of 1 a ≡ 1
-one_gcd_of a = gcd_comm 1 a ∙ gcd_of_one a
 
 -- two operations that fit
 both_fit : {V : Type 0} (a b c d : ℤ) (v : V) → nat_abs (a *ℤ b) < 2 ^ 127 → nat_abs (c *ℤ d) < 2 ^ 127 → answer is_owed (mul_op a b ∷ mul_op c d ∷ []) v ≡ Ok v

@@ -1,6 +1,8 @@
 -- The columns of a tableau over the units, and what its entries are.
 --
 --     place_in a b             where the entry at (a,b) and (b,a) stands in a lower triangle
+--     no_matrix                the matrix of no rows
+--     width_of n given         how many columns there are: the units, the given matrices and one
 --     start_cell units given k j   the coordinate of column j at the unit k: columns are the units, then the given
 --                              matrices, then one that is zero
 --     columns_of n given       these columns as matrices of n rows

@@ -1,21 +1,34 @@
 -- The operations of an exchange, each with its place, in their order; and the table after it.
 --
---     divide_entry, clear_entry    the operations of one new entry
---     divide_ops, divided_row      those of the row of the exchange, from a column on, and the new row
---     rest_ops, rest_cells         those of all entries from one on, and the new entries
---     exchange_ops t r c           all operations of the exchange at row r and column c
---     exchanged t r c              the table after it
---     first_row t c                the first row that holds a unit and has an entry in column c that is not zero
+--     entry_is_owed            the result of this operation does not fit
+--     placed i j part x y op   the operation, told with its place and the two fractions that it is part of
+--     divide_entry i j x p, multiply_entry i j x y, subtract_entry i j x y     those of x / p, x * y and x - y at row i, column j
+--     clear_entry i j x f y    those of x - f * y there
+--     divide_ops i j p xs      those of the row of the exchange from column j on: each of xs is divided by p
+--     divided_row p xs         the new row
+--     cell_ops, new_cell       those of one new entry, and the new entry: that of the new row, or x - f * y in another row
+--     next_row w i j, next_column w i j    the place after row i, column j, row by row
+--     rest_ops, rest_cells     those of all entries from one on, and the new entries
+--     table_row w old r        row r of the entries
+--     pivot_row w old r c      the new row r
+--     table_ops, table_cells   the operations and the entries of the exchange at row r and column c, from the entries alone
+--     exchange_ops t r c       all operations of the exchange at row r and column c
+--     exchanged t r c          the table after it
+--     is_zero x                x is 0
+--     takes t c i              row i holds a unit and has an entry in column c that is not zero
+--     first_row t c            the first such row
 --     brought_in t c, bring_ops t c    the table after the exchange in that row, if there is one, and its operations
 --     first_bases t k, first_ops t k   the same for the first k columns after the units, one after the other
---     IsLaidOut                    a table of so many rows, and the memory beside it
+--     IsStopped t count new    new is the table with fewer than `count` of them, and an operation of the next one does not fit
+--     IsLaidOut                a table of so many rows, and the memory beside it
 --
 -- Rows and columns of tables count from 0. An operation shows its place as it is told, from 1.
-use Rattle.std.specs.Prelude.{ℕ, zero, suc, ◌+◌, ◌*◌, pos, Bool, List, [], ◌∷◌, ◌++◌, map, length, Option, Some, None, not, ◌&&◌, if◌then◌else◌, nat_eq, nat_lt, slice_range, slice_set, slice_index_or, ◌<◌, ◌≡◌, ◌≤◌, negsuc, false}
+use Rattle.std.specs.Prelude.{ℕ, zero, suc, ◌+◌, ◌*◌, pos, Bool, List, [], ◌∷◌, ◌++◌, map, length, Option, Some, None, not, ◌&&◌, if◌then◌else◌, nat_eq, nat_lt, slice_range, slice_set, slice_index_or, ◌<◌, ◌≡◌, ◌≢◌, ◌≤◌, negsuc, false}
 use Rattle.exact_forms.specs.Rational.{Rational, ◌*ℚ◌, ◌-ℚ◌, ◌/ℚ◌}
 use Rattle.fraction128.specs.Recipes.{div_ops, mul_ops, sub_ops}
 use Rattle.symmetric_matrix.specs.declared.operation.IntOp.{IntOp}
 use Rattle.symmetric_matrix.specs.Operations.{is_owed}
+use Rattle.symmetric_matrix.specs.Owed.{first_owed}
 use Rattle.exact_linear.specs.declared.entry.EntryOp.{EntryOp}
 use Rattle.exact_linear.specs.declared.entry.EntryPart.{EntryPart}
 use Rattle.exact_linear.specs.declared.entry.EntryPart.TheVariants.{Divide, Multiply, Subtract}
@@ -110,6 +123,14 @@ first_bases t (suc k) = brought_in (first_bases t k) (rows_of t + k)
 unfoldable pub first_ops : Table → ℕ → List EntryOp
 first_ops t zero = []
 first_ops t (suc k) = first_ops t k ++ bring_ops (first_bases t k) (rows_of t + k)
+
+-- bring_in_first stops before `count` columns are in: so many are, and an operation of the next one does not fit
+pub record IsStopped (t : Table) (count : ℕ) (new : Table) : Type 0 where
+  pub done : ℕ
+  pub below : done < count
+  pub table : new ≡ first_bases t done
+  pub owes : first_owed entry_is_owed (first_ops t done) ≡ None
+  pub refused : first_owed entry_is_owed (bring_ops new (rows_of t + done)) ≢ None
 
 pub record IsLaidOut (rows width : ℕ) (entries pivots spare : List Rational) (basic : List ℕ) : Type 0 where
   pub cells : length entries ≡ rows * width

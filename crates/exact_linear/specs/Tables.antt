@@ -2,6 +2,7 @@
 --
 --     Table               its width, its entries row by row, and for each row the column that is basic there
 --     rows_of t           how many rows there are
+--     entry_of row j      number j of a list of fractions, or 0 past its end
 --     table_entry t i j   the entry at row i, column j
 --     basic_at t i        the basic column of row i
 --     IsRectangle t       each row has as many entries as the table is wide, at least one, and its basic column is one of them

@@ -16,8 +16,9 @@ pub enum EntryPart {
     Subtract,
 }
 
-/// An operation on fractions of a tableau that is refused: the row and the column of the new entry, counted from 1, the
-/// two fractions in the order written, and the operation on whole numbers that does not fit.
+/// An operation on fractions of a tableau that is refused: the row and the column, counted from 1, the two fractions in the
+/// order written, and the operation on whole numbers that does not fit. The place is that of the new entry; where entries are
+/// divided only to be compared, that of the one that is divided.
 #[derive(Clone, Copy, Debug, PartialEq, Eq)]
 pub struct EntryOp {
     pub row: usize,

@@ -1,6 +1,6 @@
 //! The tableau: rows of fractions, written over the columns that are basic.
 
-ghost use Rattle.std.specs.Prelude.{◌≡◌, ◌≢◌, ℕ, ◌+◌, ◌-◌, ◌*◌, ◌/◌, ◌%◌, ◌<◌, ◌≤◌, length, slice_index_or, IfOk, IfErr, pos, if◌then◌else◌, nat_eq, nat_abs, ◌^◌};
+ghost use Rattle.std.specs.Prelude.{◌≡◌, ◌≢◌, ℕ, ◌+◌, ◌-◌, ◌*◌, ◌<◌, ◌≤◌, length, slice_index_or, IfOk, IfErr, pos, if◌then◌else◌, nat_eq, nat_abs, ◌^◌};
 ghost use Rattle.exact_forms.specs.Rational.{whole};
 ghost use Rattle.exact_forms.specs.Coordinates.{Columns};
 ghost use Rattle.exact_forms.specs.Triangles.{triangle};
@@ -8,7 +8,7 @@ ghost use Rattle.symmetric_matrix.specs.Owed.{answer};
 ghost use Rattle.std.specs.List.{range_with_len};
 ghost use Rattle.exact_linear.specs.Tables.{rows_of, table_entry, basic_at, cells, entry_of, IsRectangle};
 ghost use Rattle.exact_linear.specs.Columns.{start_cell, no_matrix, columns_of, start_table, with_sum, with_sum_of, HasCoordinates, IsLastFree};
-ghost use Rattle.exact_linear.specs.Exchange.{entry_is_owed, exchange_ops, exchanged, first_row, brought_in, bring_ops, first_bases, first_ops};
+ghost use Rattle.exact_linear.specs.Exchange.{entry_is_owed, exchange_ops, exchanged, first_row, brought_in, bring_ops, first_bases, first_ops, IsStopped};
 
 use crate::entry::EntryOp;
 use crate::pivot::exchange_into;
@@ -147,6 +147,7 @@ impl Tableau {
         requires last { column ≤ self.old.width }
         ensures refused { result ≡ answer entry_is_owed (bring_ops self.old (column - 1)) tt }
         ensures made { IfOk result (λ _. self.new ≡ brought_in self.old (column - 1)) }
+        ensures coordinates { (A : Columns) → HasCoordinates A self.old → HasCoordinates A self.new }
         ensures kept { IfErr result (λ _. self.new ≡ self.old) }
     {
         match self.row_for(column - 1) {
@@ -170,11 +171,14 @@ impl Tableau {
 
     /// Brings in the first `count` columns after the units, one after the other.
     ///
-    /// It is refused as the exchanges are, with the first operation that does not fit.
+    /// It is refused as the exchanges are, with the first operation that does not fit. Then the columns before the one that is
+    /// refused have been brought in, and nothing else has changed.
     pub fn bring_in_first(&mut self, count: usize) -> Result<(), EntryOp>
         requires { rows_of self.old + count ≤ self.old.width }
         ensures refused { result ≡ answer entry_is_owed (first_ops self.old count) tt }
         ensures made { IfOk result (λ _. self.new ≡ first_bases self.old count) }
+        ensures stopped { IfErr result (λ _. IsStopped self.old count self.new) }
+        ensures coordinates { (A : Columns) → HasCoordinates A self.old → HasCoordinates A self.new }
     {
         let rows = self.rows();
         let _width = self.columns();

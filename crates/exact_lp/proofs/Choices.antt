@@ -1,7 +1,6 @@
 -- The choices on a table, as loops make them.
-use Rattle.std.specs.Prelude.{◌≡◌, ◌≢◌, ℕ, suc, ◌+◌, ◌-◌, ◌<◌, ◌≤◌, ◌<ℤ◌, ◌≤ℤ◌, ℤ, pos, negsuc, Bool, true, false, not, ◌&&◌, List, [], ◌∷◌, ◌++◌, length, drop, get_or, Option, Some, None, IfSome, Ok, Err, if◌then◌else◌, nat_eq, nat_lt}
-use Rattle.std.proofs.Common.{arith, sym, ◌∙◌, ap, ap₂, refl, subst, drop-cons, drop_of_length-le, append-nil}
-use Rattle.std.proofs.lemmas.Int.{ints}
+use Rattle.std.specs.Prelude.{◌≡◌, ◌≢◌, ℕ, suc, ◌+◌, ◌-◌, ◌<◌, ◌≤◌, ℤ, pos, negsuc, Bool, true, false, not, ◌&&◌, List, [], ◌∷◌, ◌++◌, length, drop, get_or, Option, Some, None, IfSome, Ok, Err, if◌then◌else◌, nat_eq, nat_lt}
+use Rattle.std.proofs.Common.{arith, sym, ◌∙◌, ap, ap₂, subst, drop-cons, drop_of_length-le, append-nil}
 use Rattle.std.specs.declared.cmp.Ordering.{Ordering}
 use Rattle.std.specs.declared.cmp.Ordering.TheVariants.{Less, Equal, Greater}
 use Rattle.exact_forms.specs.Rational.{Rational, whole}
@@ -17,40 +16,6 @@ use Rattle.exact_lp.specs.Rule.{target, top, is_negative, is_positive, is_there,
 use Rattle.exact_lp.proofs.Seeking.{IsSeeking, seek_start, seek_start_zero, IsGathered, gather_start}
 
 -- ---- tests of numbers
-pub negative_by : (x : Rational) (n : ℤ) → n ≡ x.num → n <ℤ pos 0 → is_negative x ≡ true
-negative_by x n e h = ap (λ (n : ℤ). elim n as (λ _. Bool) [ pos n ↦ false | negsuc n ↦ true ]) (sym e) ∙ by n h
-  where
-    by : (n : ℤ) → n <ℤ pos 0 → elim n as (λ _. Bool) [ pos n ↦ false | negsuc n ↦ true ] ≡ true
-    by (pos n) h = absurd (omega (arith, ints))
-    by (negsuc n) h = refl
-
-pub not_negative_by : (x : Rational) (n : ℤ) → n ≡ x.num → pos 0 ≤ℤ n → is_negative x ≡ false
-not_negative_by x n e h = ap (λ (n : ℤ). elim n as (λ _. Bool) [ pos n ↦ false | negsuc n ↦ true ]) (sym e) ∙ by n h
-  where
-    by : (n : ℤ) → pos 0 ≤ℤ n → elim n as (λ _. Bool) [ pos n ↦ false | negsuc n ↦ true ] ≡ false
-    by (pos n) h = refl
-    by (negsuc n) h = absurd (omega (arith, ints))
-
-pub positive_by : (x : Rational) (n : ℤ) → n ≡ x.num → pos 0 <ℤ n → is_positive x ≡ true
-positive_by x n e h = ap (λ (n : ℤ). elim n as (λ _. Bool) [ pos n ↦ nat_lt 0 n | negsuc n ↦ false ]) (sym e) ∙ by n h
-  where
-    above : (n : ℕ) → 0 < n → nat_lt 0 n ≡ true
-    above n l = grind arith
-
-    by : (n : ℤ) → pos 0 <ℤ n → elim n as (λ _. Bool) [ pos n ↦ nat_lt 0 n | negsuc n ↦ false ] ≡ true
-    by (pos n) h = above n (omega (arith, ints))
-    by (negsuc n) h = absurd (omega (arith, ints))
-
-pub not_positive_by : (x : Rational) (n : ℤ) → n ≡ x.num → n ≤ℤ pos 0 → is_positive x ≡ false
-not_positive_by x n e h = ap (λ (n : ℤ). elim n as (λ _. Bool) [ pos n ↦ nat_lt 0 n | negsuc n ↦ false ]) (sym e) ∙ by n h
-  where
-    below : (n : ℕ) → n ≡ 0 → nat_lt 0 n ≡ false
-    below n e = grind arith
-
-    by : (n : ℤ) → n ≤ℤ pos 0 → elim n as (λ _. Bool) [ pos n ↦ nat_lt 0 n | negsuc n ↦ false ] ≡ false
-    by (pos n) h = below n (omega (arith, ints))
-    by (negsuc n) h = refl
-
 pub positive_not_zero_test : (x : Rational) → is_positive x ≡ true → x ≢ whole (pos 0)
 positive_not_zero_test x h e = by x.num h (is_zero_of x e)
   where
@@ -92,9 +57,6 @@ pub record IsLeastSoFar (t : Table) (m best i : ℕ) : Type 0 where
   pub same : least_row t m 0 1 (rows_of t - 1) ≡ least_row t m best i (rows_of t - i)
   pub within : best < rows_of t
 
-pub least_start : (t : Table) (m : ℕ) → 1 ≤ rows_of t → IsLeastSoFar t m 0 1
-least_start t m h = record { same = refl; within = omega arith }
-
 least_next : (t : Table) (m best i : ℕ) → i < rows_of t → least_row t m best i (rows_of t - i) ≡ least_row t m (if is_lower t m best i then i else best) (i + 1) (rows_of t - (i + 1))
 unfolding least_row
 least_next t m best i l = ap (λ (k : ℕ). least_row t m best i k) (let e : rows_of t - i ≡ suc (rows_of t - (i + 1)) = omega arith in e)
@@ -124,10 +86,7 @@ lower_is t m b i o e = ap (λ (o : Ordering). elim o as (λ _. Bool) [ Less ↦ 
 pub record IsComparing (t : Table) (e b i : ℕ) (cs : List ℕ) (k : ℕ) : Type 0 where
   pub same : answer entry_is_owed (versus_ops t e b i cs) (beats t e b i cs) ≡ answer entry_is_owed (versus_ops t e b i (drop k cs)) (beats t e b i (drop k cs))
 
-pub compare_start : (t : Table) (e b i : ℕ) (cs : List ℕ) → IsComparing t e b i cs 0
-compare_start t e b i cs = record { same = refl }
-
-drop_at : (cs : List ℕ) (k c : ℕ) → k < length cs → c ≡ get_or cs k 0 → drop k cs ≡ c ∷ drop (k + 1) cs
+pub drop_at : (cs : List ℕ) (k c : ℕ) → k < length cs → c ≡ get_or cs k 0 → drop k cs ≡ c ∷ drop (k + 1) cs
 drop_at cs k c l e = drop-cons cs k 0 l ∙ ap₂ (λ (c : ℕ) (n : ℕ). c ∷ drop n cs) (sym e) (let n : suc k ≡ k + 1 = omega arith in n)
 
 at_column : (t : Table) (e b i : ℕ) (cs : List ℕ) (k c : ℕ) → IsComparing t e b i cs k → k < length cs → c ≡ get_or cs k 0
@@ -190,12 +149,6 @@ pub record IsBestSoFar (t : Table) (m e : ℕ) (cs : List ℕ) (best : Option �
   pub same : answer entry_is_owed (leaving_ops t m e cs None 0 (rows_of t)) (leaving_row t m e cs None 0 (rows_of t))
       ≡ answer entry_is_owed (leaving_ops t m e cs best i (rows_of t - i)) (leaving_row t m e cs best i (rows_of t - i))
   pub found : IfSome best (IsCandidateRow t m e)
-
-pub best_start : (t : Table) (m e : ℕ) (cs : List ℕ) → IsBestSoFar t m e cs None 0
-best_start t m e cs = record {
-  same = ap (λ (k : ℕ). answer entry_is_owed (leaving_ops t m e cs None 0 k) (leaving_row t m e cs None 0 k)) (let e : rows_of t ≡ rows_of t - 0 = omega arith in e);
-  found = tt;
-}
 
 at_row : (t : Table) (m e : ℕ) (cs : List ℕ) (best : Option ℕ) (i : ℕ) (b : Bool) → i < rows_of t → is_candidate t m e i ≡ b
     → answer entry_is_owed (leaving_ops t m e cs best i (rows_of t - i)) (leaving_row t m e cs best i (rows_of t - i))

@@ -1,5 +1,5 @@
 -- The vectors and matrices of the worked examples meet the conditions.
-use Rattle.std.specs.Prelude.{◌≡◌, ℕ, zero, suc, ◌+◌, ◌-◌, ◌<◌, ◌≤◌, ◌^◌, ℤ, pos, nat_abs, List, [], ◌∷◌, ◌++◌, length, slice_index_or}
+use Rattle.std.specs.Prelude.{◌≡◌, ℕ, zero, suc, ◌+◌, ◌<◌, ◌≤◌, ◌^◌, ℤ, pos, List, [], ◌∷◌, ◌++◌, length, slice_index_or}
 use Rattle.std.proofs.Common.{arith, refl, subst, sym, inl, lit≤}
 use Rattle.exact_forms.specs.Triangles.{triangle}
 use Rattle.exact_forms.specs.Vectors.{ComesBefore}
@@ -61,23 +61,37 @@ fourth_follows = subst (λ (xs : List (List ℕ)). CanFollow xs (2 ∷ 1 ∷ [])
     last : (k : ℕ) → k + 1 ≡ length three → ComesBefore (slice_index_or three k []) (2 ∷ 1 ∷ [])
     last k e = subst (λ (k : ℕ). ComesBefore (slice_index_or three k []) (2 ∷ 1 ∷ [])) (let f : 2 ≡ k = omega arith in f) (inl (omega arith))
 
-pub three_entries : (a b c : ℤ) → nat_abs a ≤ 100 → nat_abs b ≤ 100 → nat_abs c ≤ 100 → IsLower 2 (a ∷ b ∷ c ∷ [])
+pub three_entries : (a b c : ℤ) → IsNarrow a → IsNarrow b → IsNarrow c → IsLower 2 (a ∷ b ∷ c ∷ [])
 unfolding triangle
 three_entries a b c ha hb hc = record { entries = refl; narrow = narrow }
   where
-    small : (n : ℕ) → n ≤ 100 → n ≤ 2 ^ 127 - 1
-    small n h = let q : 100 ≤ 2 ^ 127 - 1 = lit≤ tt in omega arith
-
     narrow : (k : ℕ) → k < length (a ∷ b ∷ c ∷ []) → IsNarrow (slice_index_or (a ∷ b ∷ c ∷ []) k (pos 0))
-    narrow zero l = small (nat_abs a) ha
-    narrow (suc zero) l = small (nat_abs b) hb
-    narrow (suc (suc zero)) l = small (nat_abs c) hc
+    narrow zero l = ha
+    narrow (suc zero) l = hb
+    narrow (suc (suc zero)) l = hc
     narrow (suc (suc (suc k))) l = absurd (omega arith)
 
-pub one_entry : IsLower 1 (pos 0 ∷ [])
+pub one_entry : (a : ℤ) → IsNarrow a → IsLower 1 (a ∷ [])
 unfolding triangle
-one_entry = record { entries = refl; narrow = narrow }
+one_entry a h = record { entries = refl; narrow = narrow }
   where
-    narrow : (k : ℕ) → k < length (pos 0 ∷ []) → IsNarrow (slice_index_or (pos 0 ∷ []) k (pos 0))
-    narrow zero l = lit≤ tt
+    narrow : (k : ℕ) → k < length (a ∷ []) → IsNarrow (slice_index_or (a ∷ []) k (pos 0))
+    narrow zero l = h
     narrow (suc k) l = absurd (omega arith)
+
+abbrev pub double : List (List ℕ)
+double = (2 ∷ []) ∷ []
+
+pub double_vector : IsVector (2 ∷ [])
+double_vector = record { nonempty = omega arith; short = omega arith; small = small }
+  where
+    small : (p : ℕ) → p < length {A = ℕ} (2 ∷ []) → slice_index_or (2 ∷ []) p 0 ≤ 2 ^ 62
+    small zero l = lit≤ tt
+    small (suc p) l = absurd (omega arith)
+
+pub double_lengths : (k : ℕ) → k < length double → length (slice_index_or double k []) ≡ 1
+double_lengths zero l = refl
+double_lengths (suc k) l = absurd (omega arith)
+
+pub double_follows : CanFollow [] (2 ∷ [])
+double_follows = record { one_length = λ k l. absurd (omega arith); greater = λ k e. absurd (omega arith) }

@@ -11,7 +11,7 @@ use Rattle.exact_forms.specs.Copositive.{IsPerfect}
 use Rattle.exact_forms.specs.Coordinates.{Columns, IsBasis, IsShown}
 use Rattle.exact_forms.proofs.Rational.{ring_ℚ, zero_mul_ℚ}
 use Rattle.exact_forms.proofs.RationalSums.{sum_ℚ_same, mul-sum_ℚ}
-use Rattle.exact_forms.proofs.RankOne.{rank_one_sum_is}
+use Rattle.exact_forms.proofs.RankOne.{rank_one_sum_is, rank_one_sum_same}
 use Rattle.exact_forms.proofs.Signs.{positive_nonneg, positive_inverse, nonneg_product, nonneg_zero, whole_positive}
 use Rattle.exact_forms.proofs.Slacks.{replaced_other}
 use Rattle.exact_forms.proofs.Coordinates.{true_or_false}
@@ -50,9 +50,6 @@ sum_quotient m d x e =
     ∙ sym (mul-sum_ℚ (inverse d.num d.den) m (λ v. x v *ℚ e v))
     ∙ ring_ℚ (inverse d.num d.den ∷ sum_ℚ m (λ v. x v *ℚ e v) ∷ []) (v0 ⊗ v1) (v1 ⊗ v0) refl
 
-abbrev vector_square : List (List ℕ) → ℕ → ℕ → ℕ → Rational
-vector_square vectors v a b = whole (coordinate (slice_index_or vectors v []) a *ℤ coordinate (slice_index_or vectors v []) b)
-
 -- nonnegative coefficients of the vectors' matrices that write S
 pub record AreCoefficients (vectors : List (List ℕ)) (s : Symmetric) (t : Table) (cs : List ℕ) : Type 0 where
   pub nonnegative : (v : ℕ) → v < length vectors → IsNonnegative (coefficient t (length vectors) cs v)
@@ -65,9 +62,9 @@ weights_right vectors s d t cs hd C = record {
   nonnegative = λ k l. subst IsNonnegative (sym (weights_at t (length vectors) cs (whole d) k l)) (nonneg_quotient (coefficient t (length vectors) cs k) (whole d) (C.nonnegative k l) (whole_positive d hd));
   sum = record {
     sum = λ a b la lb.
-        rank_one_sum_is vectors (λ k. slice_index_or (weights t (length vectors) cs (whole d) (length vectors)) k (whole (pos 0))) a b
-        ∙ sum_ℚ_same (length vectors) _ _ (λ k l. ap (λ w. w *ℚ vector_square vectors k a b) (weights_at t (length vectors) cs (whole d) k l))
-        ∙ sum_quotient (length vectors) (whole d) (λ v. coefficient t (length vectors) cs v) (λ v. vector_square vectors v a b)
+        rank_one_sum_same vectors _ (λ k. coefficient t (length vectors) cs k /ℚ whole d) a b (λ k l. weights_at t (length vectors) cs (whole d) k l)
+        ∙ rank_one_sum_is vectors (λ k. coefficient t (length vectors) cs k /ℚ whole d) a b
+        ∙ sum_quotient (length vectors) (whole d) (λ v. coefficient t (length vectors) cs v) _
         ∙ ap (λ w. w /ℚ whole d) (C.sum a b la lb);
   };
 }

@@ -14,6 +14,7 @@ use Rattle.exact_lp.specs.Program.{Program, IsProgram, IsEntering, IsCandidate, 
 use Rattle.exact_forms.proofs.Signs.{Sign, above, none, below, sign_of, positive_not_zero, positive_nonneg, nonneg_product, nonneg_zero, not_both, total_nonneg, negative_opposite, negative_not_nonneg}
 use Rattle.exact_forms.proofs.Lexicographic.{LexSign, lex_above, lex_none, lex_below_zero, lex_sign, lex_same, lex_below, lex_difference, lex_add, lex_not_both}
 use Rattle.exact_forms.proofs.Coordinates.{mark_off, basis_mark, read_off, coordinates_same, true_or_false}
+use Rattle.exact_lp.specs.Theorems.{IsOnlyLeaving, LeavingIsUnique, EnteringHasLeaving}
 use Rattle.exact_lp.proofs.Outcome.{order_suc}
 
 -- ---- of two different lists one is below the other
@@ -36,7 +37,7 @@ lex_asymmetric n f g p q =
     (lex_same n _ _ (λ k l. ring_ℚ (f k ∷ g k ∷ []) (v0 ⊕ neg v1) (neg (v1 ⊕ neg v0)) refl) (lex_difference n g f q))
 
 -- the leaving column is unique
-pub leaving_unique : (P : Program) (B : ℕ → Bool) (coord : ℕ → ℕ → Rational) (e l m : ℕ) → IsLeaving P B coord e l → IsLeaving P B coord e m → l ≡ m
+leaving_unique : (P : Program) (B : ℕ → Bool) (coord : ℕ → ℕ → Rational) (e l m : ℕ) → IsLeaving P B coord e l → IsLeaving P B coord e m → l ≡ m
 leaving_unique P B coord e l m L M = by (same_or_not l m)
   where
     by : ((l ≡ m) ⊎ (l ≢ m)) → l ≡ m
@@ -210,3 +211,24 @@ module _ (P : Program) (B : ℕ → Bool) (coord start : ℕ → ℕ → Rationa
           nobody : (k : ℕ) → IsCandidate P B coord e k → ((k ≡ n) ⊎ (k < n)) → ⊥
           nobody k d (inl s) = not_candidate n (subst (λ (k : ℕ). IsCandidate P B coord e k) s d) o
           nobody k d (inr l) = h k l d
+
+  -- some candidate, so exactly one leaves
+  pub one_leaves : (e k : ℕ) → IsCandidate P B coord e k → (l : ℕ) × IsOnlyLeaving P B coord e l
+  one_leaves e k c = by (best_below e P.columns.count (omega arith))
+    where
+      by : ((l : ℕ) × (IsCandidate P B coord e l) × ((k : ℕ) → k < P.columns.count → IsCandidate P B coord e k → k ≢ l → IsLexBelow (suc P.rank) (ratios P coord e l) (ratios P coord e k)))
+          ⊎ ((k : ℕ) → k < P.columns.count → IsCandidate P B coord e k → ⊥)
+          → (l : ℕ) × IsOnlyLeaving P B coord e l
+      by (inl b) =
+          let L : IsLeaving P B coord e b.0 = record { candidate = b.1; least = λ k d ne. b.2 k d.within d ne } in
+          (b.0, record { leaves = L; only = λ m M. leaving_unique P B coord e m b.0 M L })
+      by (inr h) = absurd (h k c.within c)
+
+  pub entering_leaves : IsNonnegativeProgram P → (e : ℕ) → IsEntering P coord e → (l : ℕ) × IsOnlyLeaving P B coord e l
+  entering_leaves N e E = let c = has_candidate e N E in one_leaves e c.0 c.2
+
+pub leaving_is_unique : LeavingIsUnique
+leaving_is_unique P B coord start R H e k c = one_leaves P B coord start R H e k c
+
+pub entering_has_leaving : EnteringHasLeaving
+entering_has_leaving P B coord start R H N e E = entering_leaves P B coord start R H N e E

@@ -9,6 +9,7 @@ use Rattle.exact_lp.specs.declared.placed.Placed.TheVariants.{Inside, Outside, P
 use Rattle.exact_lp.specs.Rule.{is_there, entering}
 use Rattle.exact_lp.specs.Placement.{Problem, place_is_owed, first_owed_in, table_after, steps_of, is_last, IsStepDue, leg_ops, legs, IsRun, IsInsideAfter, IsOutsideAfter, IsRefusedAfter, IsOwedAfter, IsPlaced}
 use Rattle.exact_lp.specs.Theorems.{AtMostOneAnswer}
+use Rattle.exact_lp.proofs.Placing.{not_due}
 use Rattle.exact_lp.proofs.TableFacts.{last_or_before}
 
 -- ---- nothing of a part is owed
@@ -45,9 +46,6 @@ IsAfter p budget (Outside zeros vector steps) k = IsOutsideAfter p zeros vector 
 IsAfter p budget (Pivots steps) k = IsRefusedAfter p budget k
 IsAfter p budget (Wide op steps) k = IsOwedAfter p budget op k
 IsAfter p budget OutOfMemory k = ⊥
-
-not_due : (p : Problem) (k : ℕ) → is_last p k ≡ true → IsStepDue p k → ⊥
-not_due p k h D = let n = D.not_last in cc
 
 no_vector : (p : Problem) (k : ℕ) → entering (table_after p k) p.vectors ≡ None → IsStepDue p k → ⊥
 no_vector p k h D = let v = D.vector in let n = ap is_there h in cc

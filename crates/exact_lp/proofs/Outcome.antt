@@ -1,5 +1,5 @@
 -- The two answers of the linear program.
-use Rattle.std.specs.Prelude.{◌≡◌, ◌≢◌, ℕ, zero, suc, ◌<◌, ◌≤◌, pos, negsuc, Bool, true, false, ◌⊎◌, cond, eqb, [], ◌∷◌}
+use Rattle.std.specs.Prelude.{◌≡◌, ◌≢◌, ℕ, suc, ◌<◌, ◌≤◌, pos, negsuc, Bool, true, false, ◌⊎◌, cond, eqb, [], ◌∷◌}
 use Rattle.std.proofs.Common.{arith, sym, ◌∙◌, ap, ap₂, refl, subst, inl, inr}
 use Rattle.exact_forms.proofs.RationalSums.{sum_ℚ_same, sum_ℚ_none, sum_ℚ-add, mul-sum_ℚ, sum_ℚ_swap, sum_ℚ_one}
 use Rattle.commutative_ring.proofs.Ring.{num, ◌⊕◌, ◌⊗◌, neg, v0, v1, v2, v3, v4}
@@ -13,10 +13,6 @@ use Rattle.exact_lp.specs.Program.{Program, order, IsProgram, IsInside, IsState,
 use Rattle.exact_forms.proofs.Signs.{nonneg_add, nonneg_zero, zero_nonneg}
 use Rattle.exact_forms.proofs.Lexicographic.{lex_head}
 use Rattle.exact_forms.proofs.Coordinates.{mul_zero_ℚ, sum_marked, mark_off, coordinates_unique, true_or_false}
-
-order_zero : (P : Program) → order P zero ≡ P.target
-unfolding order
-order_zero P = refl
 
 pub order_suc : (P : Program) (j : ℕ) → order P (suc j) ≡ P.first j
 unfolding order

@@ -10,7 +10,7 @@ use Rattle.exact_forms.specs.Forms.{bilinear, form, IsSymmetric}
 use Rattle.exact_forms.specs.Vectors.{coordinate}
 use Rattle.exact_forms.specs.Copositive.{Matrix, IsPerfect}
 use Rattle.symmetric_matrix.specs.StartVectors.{start_list}
-use Rattle.exact_lp.proofs.Examples.{one, one_is, three, three_is}
+use Rattle.exact_lp.proofs.Examples.{one, one_is, double, three, three_is}
 
 -- more vectors
 pub perfect_append : (n : ℕ) (xs ys : List (List ℕ)) → IsPerfect n xs → IsPerfect n (xs ++ ys)
@@ -42,6 +42,14 @@ one_zero z vanishes (suc i) j li lj = absurd (omega arith)
 
 pub one_perfect : IsPerfect 1 (start_list 1)
 one_perfect = subst (λ (xs : List (List ℕ)). IsPerfect 1 xs) (sym one_is) record { only_zero = λ z s vanishes i j li lj. one_zero z vanishes i j li lj }
+
+double_zero : (z : Matrix) → All (λ v. form 1 z (coordinate v) ≡ pos 0) double → (i j : ℕ) → i < 1 → j < 1 → z i j ≡ pos 0
+double_zero z vanishes zero zero li lj = let e : z 0 0 *ℤ (pos 2 *ℤ pos 2) ≡ pos 0 = sym (form_one z 2) ∙ vanishes 0 [] (omega arith) in omega (arith, ints)
+double_zero z vanishes zero (suc j) li lj = absurd (omega arith)
+double_zero z vanishes (suc i) j li lj = absurd (omega arith)
+
+pub double_perfect : IsPerfect 1 double
+double_perfect = record { only_zero = λ z s vanishes i j li lj. double_zero z vanishes i j li lj }
 
 three_zero : (z : Matrix) → IsSymmetric 2 z → All (λ v. form 2 z (coordinate v) ≡ pos 0) three → (i j : ℕ) → i < 2 → j < 2 → z i j ≡ pos 0
 three_zero z s vanishes = each

@@ -4,7 +4,7 @@ use Rattle.std.proofs.Common.{arith, sym, ◌∙◌, ap, ap₂, refl, subst, inl
 use Rattle.exact_forms.specs.Rational.{Rational, whole}
 use Rattle.exact_forms.proofs.Signs.{positive_not_zero, one_positive}
 use Rattle.symmetric_matrix.specs.Owed.{answer, first_owed}
-use Rattle.symmetric_matrix.proofs.Owed.{answer_is_first_owed, first_owed-append_none, first_owed-append_some, first_owed-map}
+use Rattle.symmetric_matrix.proofs.Owed.{answer_is_first_owed, none_of_ok, some_of_err, first_owed-append_none, first_owed-append_some, first_owed-map}
 use Rattle.exact_linear.specs.declared.entry.EntryOp.{EntryOp}
 use Rattle.exact_linear.specs.Tables.{Table, rows_of, table_entry, basic_at, places_where}
 use Rattle.exact_linear.specs.Columns.{with_sum, IsLastFree}
@@ -22,7 +22,6 @@ use Rattle.exact_lp.specs.declared.placed.Placed.TheVariants.{Inside, Outside, P
 use Rattle.exact_lp.specs.Rule.{target, top, or_zero, is_there, is_basic, first_columns, is_settled, least_row, is_inside, goes_down, entering, leaving_row, leaving_ops, is_candidate, better, AreColumns}
 use Rattle.exact_lp.specs.Placement.{Problem, place_is_owed, first_owed_in, first_table, firsts, leaving, stepped, step_ops, exchange_of, opened, opened_ops, table_after, is_settled_first, IsLeft, IsStepped, steps_of, is_last, IsStepDue, HasLeavingRows, weight_ops, weights, last_table, zeros_of, outside_vector, opening_ops, closing_ops, leg_ops, legs, IsRun, IsInsideAfter, IsOutsideAfter, IsOwedAfter, IsPlaced, IsWeighed, IsOutsideAnswer}
 use Rattle.exact_lp.proofs.Choices.{IsCandidateRow, better_found}
-use Rattle.exact_lp.proofs.Weighing.{err_first, ok_first}
 
 abbrev pub problem : Table → ℕ → Rational → Problem
 problem start vectors d = record { start = start; vectors = vectors; d = d }
@@ -92,7 +91,7 @@ unfolding steps_of legs
 run_none p budget steps e = subst (λ (steps : List Exchange). IsRun p budget steps) (sym e)
     record { are = refl; due = λ k l. absurd (omega arith); owes = nothing_owed; within = omega arith }
 
-not_due : (p : Problem) (k : ℕ) → is_last p k ≡ true → IsStepDue p k → ⊥
+pub not_due : (p : Problem) (k : ℕ) → is_last p k ≡ true → IsStepDue p k → ⊥
 not_due p k h d = let n = d.not_last in cc
 
 pub wide_first : (p : Problem) (budget : ℕ) (steps : List Exchange) (op : EntryOp) → steps ≡ [] → first_owed entry_is_owed (first_ops p.start p.vectors) ≡ Some op → IsPlaced p budget (Wide (Tableau op) steps)
@@ -333,19 +332,19 @@ pub step_refused : (t : Table) (m e : ℕ) (cs rs : List ℕ) (op : EntryOp) →
 step_refused t m e cs rs op h f =
     ap (λ (ops : List EntryOp). first_owed entry_is_owed ops) (step_ops_is t m e cs (leaving t m cs e) refl)
     ∙ first_owed-append_some entry_is_owed (leaving_ops t m e (target t m ∷ cs) None 0 (rows_of t)) _ op
-    (ap (λ (rs : List ℕ). first_owed entry_is_owed (leaving_ops t m e rs None 0 (rows_of t))) (sym h) ∙ err_first entry_is_owed (leaving_ops t m e rs None 0 (rows_of t)) (leaving_row t m e rs None 0 (rows_of t)) op f)
+    (ap (λ (rs : List ℕ). first_owed entry_is_owed (leaving_ops t m e rs None 0 (rows_of t))) (sym h) ∙ some_of_err entry_is_owed (leaving_ops t m e rs None 0 (rows_of t)) (leaving_row t m e rs None 0 (rows_of t)) op f)
 
 pub step_row : (t : Table) (m e : ℕ) (cs rs : List ℕ) (r : ℕ) → rs ≡ target t m ∷ cs
     → answer entry_is_owed (leaving_ops t m e rs None 0 (rows_of t)) (leaving_row t m e rs None 0 (rows_of t)) ≡ Ok (Some r)
     → (first_owed entry_is_owed (leaving_ops t m e (target t m ∷ cs) None 0 (rows_of t)) ≡ None) × (leaving t m cs e ≡ Some r) × (IsCandidateRow t m e r)
 step_row t m e cs rs r h f =
-    let k = ok_first entry_is_owed (leaving_ops t m e rs None 0 (rows_of t)) (leaving_row t m e rs None 0 (rows_of t)) (Some r) f in
+    let k = none_of_ok entry_is_owed (leaving_ops t m e rs None 0 (rows_of t)) (leaving_row t m e rs None 0 (rows_of t)) (Some r) f in
     (ap (λ (rs : List ℕ). first_owed entry_is_owed (leaving_ops t m e rs None 0 (rows_of t))) (sym h) ∙ k.0, sym (leaving_with t m e cs rs h) ∙ k.1, leaving_found t m e rs None 0 (rows_of t) r tt k.1 (omega arith))
 
 pub step_has_row : (t : Table) (m e : ℕ) (cs rs : List ℕ) → leaving t m cs e ≢ None → rs ≡ target t m ∷ cs
     → answer entry_is_owed (leaving_ops t m e rs None 0 (rows_of t)) (leaving_row t m e rs None 0 (rows_of t)) ≡ Ok None → ⊥
 step_has_row t m e cs rs s h f =
-    s (sym (leaving_with t m e cs rs h) ∙ (ok_first entry_is_owed (leaving_ops t m e rs None 0 (rows_of t)) (leaving_row t m e rs None 0 (rows_of t)) None f).1)
+    s (sym (leaving_with t m e cs rs h) ∙ (none_of_ok entry_is_owed (leaving_ops t m e rs None 0 (rows_of t)) (leaving_row t m e rs None 0 (rows_of t)) None f).1)
 
 stepped_is : (t : Table) (m e : ℕ) (cs : List ℕ) (r : ℕ) → leaving t m cs e ≡ Some r → (stepped t m cs e ≡ exchanged t r e) × (exchange_of t m cs e ≡ record { entering = e - rows_of t; leaving = basic_at t r - rows_of t })
 unfolding stepped exchange_of
@@ -367,10 +366,10 @@ step_left t new m e cs r (Ok made) n h L =
     )
 
 pub err_owed : (ops : List EntryOp) (op : EntryOp) → answer entry_is_owed ops (tt {0}) ≡ Err op → first_owed entry_is_owed ops ≡ Some op
-err_owed ops op h = err_first entry_is_owed ops (tt {0}) op h
+err_owed ops op h = some_of_err entry_is_owed ops (tt {0}) op h
 
 pub ok_owed : (ops : List EntryOp) → answer entry_is_owed ops (tt {0}) ≡ Ok (tt {0}) → first_owed entry_is_owed ops ≡ None
-ok_owed ops h = (ok_first entry_is_owed ops (tt {0}) (tt {0}) h).0
+ok_owed ops h = (none_of_ok entry_is_owed ops (tt {0}) (tt {0}) h).0
 
 -- ---- the reserved column stays free
 brought_within : (t : Table) (c n : ℕ) → ((i : ℕ) → i < rows_of t → basic_at t i < n) → c < n → (i : ℕ) → i < rows_of t → basic_at (brought_in t c) i < n

@@ -12,7 +12,7 @@ use Rattle.exact_forms.specs.Coordinates.{swapped, exchanged}
 use Rattle.exact_lp.specs.Program.{Program, order, IsProgram, IsEntering, IsLeaving, IsState, ratios}
 use Rattle.exact_forms.proofs.Signs.{Sign, above, none, below, sign_of, positive_inverse, positive_not_zero, zero_not_positive, negative_opposite}
 use Rattle.exact_forms.proofs.Lexicographic.{lex_same, lex_difference, lex_below, lex_add, lex_times}
-use Rattle.exact_forms.proofs.Coordinates.{mark_off, basis_mark, exchange_keeps}
+use Rattle.exact_forms.proofs.Coordinates.{mark_off, basis_mark, exchange_keeps, true_or_false}
 
 pub lex_quotient : (n : ℕ) (f : ℕ → Rational) (c : Rational) → IsPositive c → IsLexPositive n f → IsLexPositive n (λ j. f j /ℚ c)
 unfolding ◌/ℚ◌
@@ -20,17 +20,13 @@ lex_quotient n f c hc p =
     lex_same n (λ j. inverse c.num c.den *ℚ f j) (λ j. f j *ℚ inverse c.num c.den) (λ k l. ring_ℚ (inverse c.num c.den ∷ f k ∷ []) (v0 ⊗ v1) (v1 ⊗ v0) refl)
     (lex_times n (inverse c.num c.den) f (positive_inverse c hc) p)
 
-is_true_or_false : (b : Bool) → (b ≡ true) ⊎ (b ≡ false)
-is_true_or_false true = inl refl
-is_true_or_false false = inr refl
-
 module _ (P : Program) (B : ℕ → Bool) (coord start : ℕ → ℕ → Rational) (R : IsProgram P start) (H : IsState P B coord) where
   vector_within : (k : ℕ) → k < P.high → k < P.columns.count
   vector_within k l = let a = R.vectors in omega arith
 
   -- the entering column is not in the basis
   pub entering_outside : (e : ℕ) → IsEntering P coord e → B e ≡ false
-  entering_outside e E = by (is_true_or_false (B e))
+  entering_outside e E = by (true_or_false (B e))
     where
       by : ((B e ≡ true) ⊎ (B e ≡ false)) → B e ≡ false
       by (inr f) = f

@@ -1,48 +1,28 @@
 -- The two ends, as loops make them.
-use Rattle.std.specs.Prelude.{◌≡◌, ◌≢◌, ℕ, suc, ◌+◌, ◌-◌, ◌<◌, ◌≤◌, pos, Bool, true, false, ◌&&◌, ◌||◌, List, [], ◌∷◌, ◌++◌, map, length, drop, get_or, Option, Some, None, Result, Ok, Err, is_err, OnOk, if◌then◌else◌, nat_eq}
-use Rattle.std.proofs.Common.{arith, sym, ◌∙◌, ap, ap₂, refl, drop-cons, drop_of_length-le}
+use Rattle.std.specs.Prelude.{◌≡◌, ℕ, suc, ◌+◌, ◌-◌, ◌<◌, ◌≤◌, Bool, true, false, ◌&&◌, List, [], ◌∷◌, ◌++◌, map, length, drop, get_or, Some, None, Result, Ok, Err, is_err, OnOk, if◌then◌else◌}
+use Rattle.std.proofs.Common.{arith, sym, ◌∙◌, ap, ap₂, refl, drop_of_length-le}
 use Rattle.std.proofs.lemmas.List.FromFn.{map-range_with_len_more}
 use Rattle.exact_forms.specs.Rational.{Rational, whole, ◌+ℚ◌, ◌/ℚ◌}
 use Rattle.fraction128.specs.Recipes.{add_ops, div_ops}
 use Rattle.symmetric_matrix.specs.declared.operation.IntOp.{IntOp}
 use Rattle.symmetric_matrix.specs.Operations.{is_owed}
 use Rattle.symmetric_matrix.specs.Owed.{answer, tagged, first_owed}
-use Rattle.symmetric_matrix.proofs.Owed.{answer_tagged, answer-append_err, answer-append_ok, answer_nothing, answer_is_first_owed, first_owed-append_none, first_owed-append_some}
+use Rattle.symmetric_matrix.proofs.Owed.{answer_tagged, answer-append_err, answer-append_ok, answer_nothing, none_of_ok, some_of_err, first_owed-append_none, first_owed-append_some}
 use Rattle.exact_linear.specs.Tables.{Table, rows_of, table_entry}
 use Rattle.exact_lp.specs.declared.placed.PlaceOp.{PlaceOp}
 use Rattle.exact_lp.specs.declared.placed.PlaceOp.TheVariants.{Weight}
-use Rattle.exact_lp.specs.Rule.{target, top, is_basic, is_positive, row_of}
+use Rattle.exact_lp.specs.Rule.{top, is_basic, is_positive}
 use Rattle.exact_lp.specs.Placement.{place_is_owed, first_owed_in, contains, at_target, is_raised, coefficient, coefficient_ops, weight_ops, weights, zeros_of, is_basic_vector, first_above}
+use Rattle.exact_lp.proofs.Choices.{drop_at}
 use Rattle.exact_lp.proofs.Seeking.{IsGathered, gather_start}
 
 -- ---- a list looked through
 pub record IsLooking (whole : List ℕ) (x k : ℕ) : Type 0 where
   pub same : contains whole x ≡ contains (drop k whole) x
 
-drop_at : (cs : List ℕ) (k c : ℕ) → k < length cs → c ≡ get_or cs k 0 → drop k cs ≡ c ∷ drop (k + 1) cs
-drop_at cs k c l e = drop-cons cs k 0 l ∙ ap₂ (λ (c : ℕ) (n : ℕ). c ∷ drop n cs) (sym e) (let n : suc k ≡ k + 1 = omega arith in n)
-
-pub look_start : (whole : List ℕ) (x : ℕ) → IsLooking whole x 0
-look_start whole x = record { same = refl }
-
-here : (whole : List ℕ) (x k c : ℕ) → IsLooking whole x k → k < length whole → c ≡ get_or whole k 0 → contains whole x ≡ (nat_eq c x || contains (drop (k + 1) whole) x)
-here whole x k c S l e = S.same ∙ ap (λ (cs : List ℕ). contains cs x) (drop_at whole k c l e)
-
-pub look_found : (whole : List ℕ) (x k c : ℕ) → IsLooking whole x k → k < length whole → c ≡ get_or whole k 0 → c ≡ x → true ≡ contains whole x
-look_found whole x k c S l e f = sym (here whole x k c S l e ∙ ap (λ (b : Bool). b || contains (drop (k + 1) whole) x) (let t : nat_eq c x ≡ true = grind arith in t))
-
-pub look_more : (whole : List ℕ) (x k c : ℕ) → IsLooking whole x k → k < length whole → c ≡ get_or whole k 0 → c ≢ x → IsLooking whole x (k + 1)
-look_more whole x k c S l e n = record { same = here whole x k c S l e ∙ ap (λ (b : Bool). b || contains (drop (k + 1) whole) x) (let t : nat_eq c x ≡ false = grind arith in t) }
-
-pub look_done : (whole : List ℕ) (x k : ℕ) → IsLooking whole x k → length whole ≤ k → false ≡ contains whole x
-look_done whole x k S l = sym (S.same ∙ ap (λ (cs : List ℕ). contains cs x) (drop_of_length-le whole {i = k} l))
-
 -- ---- the first above
 pub record IsAbove (t : Table) (r : ℕ) (whole : List ℕ) (k : ℕ) : Type 0 where
   pub same : first_above t r whole ≡ first_above t r (drop k whole)
-
-pub above_start : (t : Table) (r : ℕ) (whole : List ℕ) → IsAbove t r whole 0
-above_start t r whole = record { same = refl }
 
 above_here : (t : Table) (r : ℕ) (whole : List ℕ) (k c : ℕ) → IsAbove t r whole k → k < length whole → c ≡ get_or whole k 0
     → first_above t r whole ≡ (if is_positive (table_entry t r c) then c else first_above t r (drop (k + 1) whole))
@@ -65,13 +45,6 @@ unfolding zeros_of
 zeros_start t m xs e = gather_start (is_basic_vector t) 0 m xs e
 
 -- ---- a coefficient
-pub found_at_target : (t : Table) (m c i col : ℕ) (x : Rational) → Some i ≡ row_of t c → col ≡ target t m → x ≡ table_entry t i col → x ≡ at_target t m c
-found_at_target t m c i col x e f g =
-    g ∙ ap (λ (k : ℕ). table_entry t i k) f ∙ ap (λ (o : Option ℕ). elim o as (λ _. Rational) [ None ↦ whole (pos 0) | Some i ↦ table_entry t i (target t m) ]) e
-
-pub none_at_target : (t : Table) (m c : ℕ) (x : Rational) → None ≡ row_of t c → x ≡ whole (pos 0) → x ≡ at_target t m c
-none_at_target t m c x e f = f ∙ ap (λ (o : Option ℕ). elim o as (λ _. Rational) [ None ↦ whole (pos 0) | Some i ↦ table_entry t i (target t m) ]) e
-
 pub weight_tagged : (v : ℕ) (ops : List IntOp) (x : Rational) → tagged (Weight v) (answer is_owed ops x) ≡ answer place_is_owed (map (Weight v) ops) x
 weight_tagged v ops x = answer_tagged is_owed place_is_owed (Weight v) ops x (λ o. refl)
 
@@ -106,21 +79,6 @@ weight_then t m cs d v x h =
     let r = answer-append_ok place_is_owed (raise_ops t m cs v) (map (Weight v) (div_ops (coefficient t m cs v) d)) (coefficient t m cs v) x (coefficient t m cs v /ℚ d) h in
     ap (λ (x : Rational). answer place_is_owed (map (Weight v) (div_ops x d)) (x /ℚ d)) (sym r.1) ∙ sym r.0
 
--- ---- answers and first owed operations
-pub err_first : {O V : Type 0} (owed : O → Bool) (ops : List O) (v : V) (err : O) → answer owed ops v ≡ Err err → first_owed owed ops ≡ Some err
-err_first {O} {V} owed ops v err h = by (first_owed owed ops) (sym (answer_is_first_owed owed ops v) ∙ h)
-  where
-    by : (o : Option O) → elim o as (λ _. Result V O) [ None ↦ Ok v | Some op ↦ Err op ] ≡ Err err → o ≡ Some err
-    by None h = absurd cc
-    by (Some op) h = cc
-
-pub ok_first : {O V : Type 0} (owed : O → Bool) (ops : List O) (v x : V) → answer owed ops v ≡ Ok x → (first_owed owed ops ≡ None) × (v ≡ x)
-ok_first {O} {V} owed ops v x h = by (first_owed owed ops) (sym (answer_is_first_owed owed ops v) ∙ h)
-  where
-    by : (o : Option O) → elim o as (λ _. Result V O) [ None ↦ Ok v | Some op ↦ Err op ] ≡ Ok x → (o ≡ None) × (v ≡ x)
-    by None h = (refl, cc)
-    by (Some op) h = absurd cc
-
 -- ---- the weights, one after the other
 pub record IsWeighing (t : Table) (m : ℕ) (cs : List ℕ) (d : Rational) (found : List Rational) (v : ℕ) : Type 0 where
   pub same : first_owed_in (weight_ops t m cs d 0 m) ≡ first_owed_in (weight_ops t m cs d v (m - v))
@@ -139,13 +97,13 @@ pub weigh_refused : (t : Table) (m : ℕ) (cs : List ℕ) (d : Rational) (found 
     → answer place_is_owed (coefficient_ops t m cs d v) (coefficient t m cs v /ℚ d) ≡ Err err → first_owed_in (weight_ops t m cs d 0 m) ≡ Some err
 weigh_refused t m cs d found v err S l h =
     weigh_here t m cs d found v S l
-    ∙ first_owed-append_some place_is_owed (coefficient_ops t m cs d v) (weight_ops t m cs d (v + 1) (m - (v + 1))) err (err_first place_is_owed (coefficient_ops t m cs d v) (coefficient t m cs v /ℚ d) err h)
+    ∙ first_owed-append_some place_is_owed (coefficient_ops t m cs d v) (weight_ops t m cs d (v + 1) (m - (v + 1))) err (some_of_err place_is_owed (coefficient_ops t m cs d v) (coefficient t m cs v /ℚ d) err h)
 
 pub weigh_more : (t : Table) (m : ℕ) (cs : List ℕ) (d : Rational) (found new : List Rational) (v : ℕ) (x : Rational) → IsWeighing t m cs d found v → v < m
     → answer place_is_owed (coefficient_ops t m cs d v) (coefficient t m cs v /ℚ d) ≡ Ok x → new ≡ found ++ x ∷ [] → IsWeighing t m cs d new (v + 1)
 unfolding weights
 weigh_more t m cs d found new v x S l h e =
-    let k = ok_first place_is_owed (coefficient_ops t m cs d v) (coefficient t m cs v /ℚ d) x h in
+    let k = none_of_ok place_is_owed (coefficient_ops t m cs d v) (coefficient t m cs v /ℚ d) x h in
     record {
       same = weigh_here t m cs d found v S l ∙ first_owed-append_none place_is_owed (coefficient_ops t m cs d v) (weight_ops t m cs d (v + 1) (m - (v + 1))) k.0;
       made = e ∙ ap₂ (λ (xs : List Rational) (x : Rational). xs ++ x ∷ []) S.made (sym k.1) ∙ sym (map-range_with_len_more (λ v. coefficient t m cs v /ℚ d) 0 v v (omega arith));

@@ -1,26 +1,45 @@
 -- The linear program step by step: its operations in their order, and what `place` answers.
 --
 --     Problem              the table over the units, how many vectors there are, and the number that the weights are divided by
+--     units p              how many units there are
+--     place_is_owed op     the result of this operation does not fit
+--     first_owed_in ops    the first such operation of a list
 --     first_table p        the table of the first basis; firsts p the columns of the first basis
 --     ranks t m firsts     the target's column, then those of the first basis
 --     leaving, stepped, step_ops, exchange_of   of the step of an entering column: its row, the table after it, its operations, and
 --                          the two vectors' indices
+--     IsLeft t r c new a   a is what the exchange at row r and column c answers, told as a step, and new the table after it
+--     IsStepped t m firsts e new a    the same of the step of the entering column e
 --     opened t m, opened_ops t m   the table after t has come in, and the operations of that
 --     table_after p k, steps_of p k   the table after k steps, and these steps
---     is_last p k          the target is written by nonnegative coordinates after k steps, or over the first basis already
+--     is_settled_first p   the target is written by nonnegative coordinates over the first basis
+--     is_last p k          it is written so after k steps, or over the first basis already
 --     IsStepDue p k        neither is it so, nor is there no entering vector
 --     HasLeavingRows p     at each step that is due a row can leave
+--     contains cs c        c is in the list
+--     at_target t m c      the coordinate of the target at column c, which is 0 where c is not basic
+--     is_raised t m firsts v   t is basic, and vector v in the first basis: t's coefficient is added to that of v
 --     coefficient t m firsts v    the coefficient of vector v in the answer Inside, before it is divided
+--     coefficient_ops t m firsts d v   the operations of that coefficient, and of its division by d
+--     weight_ops t m firsts d v n      those of n vectors from v on
 --     weights t m firsts d n       the weights, in the order of the vectors
---     zeros_of t m, outside_vector t m firsts   the basic vectors, and the first of the first basis whose entry in the row of t is positive
+--     last_table p k       the table that the weights are read from after k steps
+--     is_basic_vector t v, zeros_of t m   vector v is basic; the basic vectors
+--     first_above t r cs   the first of the columns cs with a positive entry in row r
+--     outside_vector t m firsts   the first vector of the first basis whose entry in the row of t is positive
+--     IsWeighed t m firsts d steps a       a is what the weights of the table t answer
+--     IsOutsideAnswer t m firsts steps a   a is what the basis of the table t answers
 --     opening_ops p k      the operations after step k, up to where it is known which of the three ends applies
+--     closing_ops p k      those from there to the next step, or to the end
 --     leg_ops p k          all operations after step k and before the next one, or to the end
 --     legs p k             those of the first k legs
 --     IsRun p steps        these are the first steps, none is lacking, and no operation up to them is owed
---     IsPlaced p budget a  a is the answer with at most so many steps
+--     IsInsideAfter, IsOutsideAfter, IsRefusedAfter, IsOwedAfter   the answers Inside, Outside, Pivots and Wide fit after k steps
+--     IsPlaced p budget a  a is an answer that fits with at most so many steps
+--     IsDue p budget a     each answer that fits is a, want of memory aside: so a comes exactly where it fits
 --
 -- Rows, columns and vectors count from 0.
-use Rattle.std.specs.Prelude.{ℕ, zero, suc, ◌+◌, ◌-◌, ◌<◌, ◌≤◌, ◌≡◌, ◌≢◌, pos, Bool, true, false, ◌&&◌, ◌||◌, List, [], ◌∷◌, ◌++◌, map, length, Option, Some, None, Result, Ok, Err, if◌then◌else◌, nat_eq}
+use Rattle.std.specs.Prelude.{ℕ, zero, suc, ◌+◌, ◌-◌, ◌<◌, ◌≤◌, ◌≡◌, ◌≢◌, pos, Bool, true, false, ◌&&◌, ◌||◌, ◌⊎◌, List, [], ◌∷◌, ◌++◌, map, length, Option, Some, None, Result, Ok, Err, if◌then◌else◌, nat_eq}
 use Rattle.std.specs.List.{range_with_len}
 use Rattle.exact_forms.specs.Rational.{Rational, whole, ◌+ℚ◌, ◌/ℚ◌}
 use Rattle.fraction128.specs.Recipes.{add_ops, div_ops}
@@ -230,3 +249,7 @@ IsPlaced p budget (Outside zeros vector steps) = IsRun p budget steps × IsOutsi
 IsPlaced p budget (Pivots steps) = IsRun p budget steps × IsRefusedAfter p budget (length steps)
 IsPlaced p budget (Wide op steps) = IsRun p budget steps × IsOwedAfter p budget op (length steps)
 IsPlaced p budget OutOfMemory = Unit {0}
+
+-- want of memory aside, whatever answer fits is the one that was given
+abbrev pub IsDue : Problem → ℕ → Placed → Type 0
+IsDue p budget answered = (a : Placed) → IsPlaced p budget a → (answered ≡ a) ⊎ ((answered ≡ OutOfMemory) ⊎ (a ≡ OutOfMemory))

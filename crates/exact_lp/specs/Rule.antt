@@ -3,6 +3,8 @@
 -- The columns of a table are its units, as many as it has rows; then m vectors; then the target; then the reserved column t.
 --
 --     target t m, top t m      the columns of the target and of t
+--     is_negative x, is_positive x    x is below 0; above 0
+--     or_zero o, is_there o    the number that may be there, or 0; whether it is there
 --     holds t c i              the basic column of row i is c
 --     row_of t c               that row
 --     top_row t m              the row of t
@@ -10,13 +12,16 @@
 --     first_columns t m        the vectors' columns that are basic, in increasing order
 --     is_below t m i           the target's entry in row i is negative
 --     is_settled t m           the target has no negative entry
+--     is_lower t m b i         row i has a lesser entry of the target than row b, or an equal one and a later vector
 --     least_row t m best i n   the row of the target's least entry, of equal ones that of the last vector; n rows from i on are left
 --     is_inside t m            the target's entry in the row of t is at least 0
 --     goes_down t m c          the entry of column c in the row of t is negative
 --     entering t m             the first vector with a negative entry in the row of t
+--     ratio_at t e i c         the entry of row i in column c, divided by its entry in column e
 --     beats t e b i cs         row i divided by its entry in column e is lexicographically less than row b, over the columns cs
 --     versus_ops t e b i cs    the divisions of that comparison, which stops at the first difference
 --     is_candidate t m e i     row i is not the row of t, and its entry in column e is positive
+--     better t e cs best i, better_ops    the better of the candidate row i and the best one before it; the divisions of that
 --     leaving_row t m e cs best i n    the candidate that beats the others; best is the best before row i, and n rows are left
 --     leaving_ops              the divisions of its comparisons
 --     AreColumns t cs          each number of the list is a column of t

@@ -1,6 +1,6 @@
 -- The linear program as a run: what its steps do, and what its answer Outside names.
 --
---     step_at steps k          step k of a list
+--     step_at steps k          step k of a list; past its end no_step, which names vector 0 twice
 --     entering_column P steps k, leaving_column P steps k    its columns
 --     basis_after P B steps k  the basis after k steps from the basis B: at each step the entering column takes the place of the leaving one
 --     coordinates_after P coord steps k    the coordinates over it, by those over B

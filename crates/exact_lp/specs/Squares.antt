@@ -1,5 +1,6 @@
 -- The linear program of a list of vectors.
 --
+--     square_row x i, square_rows x n    row i of the lower triangle of x·xᵗ, and the first n rows one after the other
 --     square x              the matrix x·xᵗ
 --     squares vectors       the matrices of the vectors, in their order
 --     problem_of vectors s d    the linear program whose target is S, the weights divided by d

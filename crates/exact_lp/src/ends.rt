@@ -1,13 +1,13 @@
 //! The two answers of the linear program: weights, or the vectors of a basis. Rows and columns count from 0 here.
 
-ghost use Rattle.std.specs.Prelude.{◌≡◌, ◌≢◌, ◌+◌, ◌-◌, ◌<◌, ◌≤◌, pos, length, map, [], if◌then◌else◌, IfOk, Some, None};
+ghost use Rattle.std.specs.Prelude.{◌≡◌, ◌≢◌, ◌+◌, ◌<◌, ◌≤◌, pos, map, [], if◌then◌else◌, IfOk};
 ghost use Rattle.exact_forms.specs.Rational.{whole, ◌/ℚ◌};
 ghost use Rattle.fraction128.specs.Recipes.{add_ops};
 ghost use Rattle.symmetric_matrix.specs.Owed.{answer, tagged};
 ghost use Rattle.exact_linear.specs.Tables.{rows_of};
 ghost use Rattle.exact_lp.specs.declared.placed.PlaceOp.TheVariants.{Weight};
 ghost use Rattle.exact_lp.specs.Rule.{top, AreColumns};
-ghost use Rattle.exact_lp.specs.Placement.{place_is_owed, contains as the_contains, at_target as the_at_target, is_raised, coefficient as the_coefficient, coefficient_ops, zeros_of, first_above as the_first_above, outside_vector as the_outside_vector, IsWeighed, IsOutsideAnswer};
+ghost use Rattle.exact_lp.specs.Placement.{place_is_owed, contains as the_contains, at_target as the_at_target, is_raised, coefficient as the_coefficient, coefficient_ops, zeros_of, first_above as the_first_above, IsWeighed, IsOutsideAnswer};
 
 use crate::lists::{Exchanges, Indices, Weights};
 use crate::placed::{PlaceOp, Placed};

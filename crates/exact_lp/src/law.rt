@@ -1,6 +1,6 @@
 //! What holds of all answers of the linear program. Each call does nothing: its contract is the law.
 
-ghost use Rattle.exact_lp.specs.Theorems.{AtMostOneAnswer, LeavingIsUnique, SettledAtOnce};
+ghost use Rattle.exact_lp.specs.Theorems.{AtMostOneAnswer, LeavingIsUnique, EnteringHasLeaving, SettledAtOnce};
 
 /// Want of memory aside, at most one answer fits a linear program and a budget of steps.
 pub fn at_most_one_answer()
@@ -12,7 +12,9 @@ pub fn settled_at_once()
     ensures { SettledAtOnce }
 {}
 
-/// One column at most has the lexicographically least list of ratios, so one at most can leave.
+/// At a state of the linear program exactly one vector leaves, where any can: one list of ratios is lexicographically less than
+/// each other one. Where no entry is negative, each entering vector has one that leaves.
 pub fn leaving_is_unique()
-    ensures { LeavingIsUnique }
+    ensures unique { LeavingIsUnique }
+    ensures entering { EnteringHasLeaving }
 {}

@@ -1,9 +1,9 @@
 //! The choices of the linear program on a tableau. Rows and columns count from 0 here, as in the definitions.
 
-ghost use Rattle.std.specs.Prelude.{◌≡◌, ◌+◌, ◌-◌, ◌<◌, ◌≤◌, ◌≢◌, pos, List, length, Some, None, IfOk, IfSome, slice_index_or, not};
+ghost use Rattle.std.specs.Prelude.{◌≡◌, ◌+◌, ◌-◌, ◌<◌, ◌≤◌, ◌≢◌, pos, None, IfOk, IfSome};
 ghost use Rattle.exact_forms.specs.Rational.{whole};
 ghost use Rattle.symmetric_matrix.specs.Owed.{answer};
-ghost use Rattle.exact_linear.specs.Tables.{rows_of, table_entry, basic_at, IsRectangle};
+ghost use Rattle.exact_linear.specs.Tables.{rows_of, table_entry, basic_at};
 ghost use Rattle.exact_linear.specs.Exchange.{entry_is_owed, divide_entry};
 ghost use Rattle.exact_lp.specs.Rule.{target, top, is_negative as the_negative, is_positive as the_positive, row_of as the_row_of, is_basic as the_basic, top_row as the_top_row, first_columns as the_first_columns, is_settled as the_settled, least_row as the_least_row, is_lower as the_lower, is_inside as the_inside, entering as the_entering, ratio_at, beats, versus_ops, is_candidate as the_candidate, leaving_row as the_leaving_row, leaving_ops, better as the_better, better_ops, AreColumns};
 

@@ -1,6 +1,6 @@
 //! The linear program: is a matrix a nonnegative combination of the matrices v·vᵗ of a list of vectors?
 
-ghost use Rattle.std.specs.Prelude.{◌≡◌, ◌≢◌, ℕ, ◌+◌, ◌-◌, ◌<◌, ◌≤◌, pos, [], ◌∷◌, length, IfOk, Some, None, OnOk, slice_index_or, ◌≤ℤ◌};
+ghost use Rattle.std.specs.Prelude.{◌≡◌, ◌≢◌, ℕ, ◌+◌, ◌<◌, ◌≤◌, pos, [], ◌∷◌, length, IfOk, None, slice_index_or, ◌≤ℤ◌};
 ghost use Rattle.exact_forms.specs.Copositive.{IsPerfect};
 ghost use Rattle.exact_forms.specs.Rational.{whole};
 ghost use Rattle.symmetric_matrix.specs.Owed.{answer};
@@ -8,7 +8,7 @@ ghost use Rattle.exact_linear.specs.Tables.{rows_of, table_entry, basic_at};
 ghost use Rattle.exact_linear.specs.Columns.{IsLastFree};
 ghost use Rattle.exact_linear.specs.Exchange.{entry_is_owed, exchange_ops, exchanged};
 ghost use Rattle.exact_lp.specs.Rule.{target, AreColumns};
-ghost use Rattle.exact_lp.specs.Placement.{Problem, opened, opened_ops, leaving as the_leaving, step_ops, stepped, exchange_of, IsStepped, HasLeavingRows, IsLeft, IsPlaced};
+ghost use Rattle.exact_lp.specs.Placement.{opened, opened_ops, leaving as the_leaving, IsStepped, HasLeavingRows, IsLeft, IsPlaced, IsDue};
 ghost use Rattle.exact_lp.specs.Squares.{problem_of};
 ghost use Rattle.exact_lp.specs.Weights.{IsSound};
 ghost use Rattle.exact_lp.specs.Ruled.{IsRuled};
@@ -167,17 +167,19 @@ fn place_on(alloc: Global, start: Tableau, vectors: usize, d: Fraction, budget: 
 /// Each answer comes after steps of the rule that were due: `Inside` with one weight for each vector, at least 0, whose
 /// combination is S/d; `Outside` only where there are no such weights; `Pivots` after `budget` steps, where another is due and
 /// no operation up to then is owed; `Wide` with the first operation that is owed after the steps. Want of memory may come at
-/// any time; but for it there is one answer.
+/// any time; but for it at most one answer fits, so each of the four comes exactly where it is due.
 ///
 /// The first basis has each vector whose matrix is no combination of those of earlier ones. The sum t of its matrices comes in
 /// at the least coordinate of S, of equal ones the last. A step is due while S has a negative coordinate at t and some vector
-/// has: the first such vector enters, and the one whose coordinates of S and of the first basis, divided by that of the
-/// entering vector, are lexicographically least leaves. Each step makes the list of t's coordinates lexicographically greater.
+/// has: the first such vector enters. Of the vectors of the basis at which it has a positive coordinate, the one leaves whose
+/// coordinates of S and of the first basis, divided by that of the entering vector, are lexicographically least. Each step
+/// makes the list of t's coordinates lexicographically greater.
 pub fn place(alloc: Global, vectors: &VectorList, s: &SymInt, d: i128, budget: u32) -> Placed
     requires one_length { (k : ℕ) → k < length vectors.now → length (slice_index_or vectors.now k []) ≡ s.now.size }
     requires positive { pos 1 ≤ℤ d }
     requires spanning { IsPerfect s.now.size vectors.now }
     ensures answer { IsPlaced (problem_of vectors.now s.now d) budget result }
+    ensures due { IsDue (problem_of vectors.now s.now d) budget result }
     ensures rule { IsRuled vectors.now s.now d result }
     ensures sound { IsSound s.now.size vectors.now s.now d result }
 {

@@ -1,10 +1,9 @@
 //! The matrices x·xᵗ of vectors, and the tableau that the linear program begins with.
 
-ghost use Rattle.std.specs.Prelude.{◌≡◌, ℕ, ◌*◌, ◌<◌, ◌≤◌, ◌^◌, ◌-◌, ◌++◌, ◌∷◌, [], pos, length, nat_abs, slice_index_or, IfOk, OnOk};
+ghost use Rattle.std.specs.Prelude.{◌≡◌, ℕ, ◌*◌, ◌<◌, ◌≤◌, ◌^◌, ◌++◌, ◌∷◌, [], pos, length, nat_abs, slice_index_or, IfOk, OnOk};
 ghost use Rattle.symmetric_matrix.specs.Lists.{IsVector};
-ghost use Rattle.symmetric_matrix.specs.Symmetric.{IsSymmetricMatrix};
 ghost use Rattle.exact_linear.specs.Columns.{start_table};
-ghost use Rattle.exact_lp.specs.Squares.{square_row, square_rows, square as the_square, squares};
+ghost use Rattle.exact_lp.specs.Squares.{square_row, square as the_square, squares};
 
 use exact_linear::Tableau;
 use std::alloc::{AllocError, Global};

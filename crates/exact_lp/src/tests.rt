@@ -1,12 +1,13 @@
 //! Worked examples.
 
-ghost use Rattle.std.specs.Prelude.{◌≡◌, ℕ, ◌<◌, ◌≤◌, ◌^◌, ◌≤ℤ◌, pos, nat_abs, [], ◌∷◌, ◌++◌, length, slice_index_or};
+ghost use Rattle.std.specs.Prelude.{◌≡◌, ◌≤◌, ◌^◌, [], ◌∷◌, ◌++◌};
 ghost use Rattle.symmetric_matrix.specs.StartVectors.{start_list};
+ghost use Rattle.symmetric_matrix.specs.Symmetric.{IsNarrow};
 
-use crate::{Placed, place};
+use crate::{Exchanges, Indices, PlaceOp, Placed, Weights, place};
 use std::alloc::Global;
 use std::process::Abort;
-use symmetric_matrix::{IntVector, SymInt, VectorList, start_vectors};
+use symmetric_matrix::{IntKind, IntVector, SymInt, VectorList, start_vectors};
 
 #[tactic(auto, using(crate::proofs::Examples::two_vector))]
 fn two(alloc: Global, first: u64, second: u64) -> IntVector
@@ -35,58 +36,105 @@ fn four_vectors(rt: &impl Abort, alloc: Global) -> VectorList
 
 #[tactic(auto, using(crate::proofs::Examples::three_entries))]
 fn matrix(rt: &impl Abort, alloc: Global, first: i128, second: i128, third: i128) -> SymInt
-    requires first { nat_abs first ≤ 100 }
-    requires second { nat_abs second ≤ 100 }
-    requires third { nat_abs third ≤ 100 }
+    requires first { IsNarrow first }
+    requires second { IsNarrow second }
+    requires third { IsNarrow third }
     ensures { result.size ≡ 2 }
 {
     SymInt::from_lower(alloc, 2, &[first, second, third]).expect(rt, "memory")
 }
 
+#[tactic(auto, using(crate::proofs::Examples::one_entry))]
+fn single(rt: &impl Abort, alloc: Global, entry: i128) -> SymInt
+    requires { IsNarrow entry }
+    ensures { result.size ≡ 1 }
+{
+    SymInt::from_lower(alloc, 1, &[entry]).expect(rt, "memory")
+}
+
+fn name_of(kind: IntKind) -> &'static str {
+    match kind {
+        IntKind::Mul => "mul",
+        IntKind::Add => "add",
+    }
+}
+
+fn shown_steps(rt: &impl Abort, alloc: Global, steps: &Exchanges) -> String {
+    let mut text = String::new(alloc);
+    for k in 0..steps.len() {
+        let step = steps.at(k);
+        text.push_str(&format!(in alloc; " step {} for {}", step.entering, step.leaving).expect(
+            rt, "memory",
+        )).expect(rt, "memory");
+    }
+    text
+}
+
+fn shown_weights(rt: &impl Abort, alloc: Global, weights: &Weights) -> String {
+    let mut text = String::new(alloc);
+    for k in 0..weights.len() {
+        let weight = weights.at(k);
+        text.push_str(&format!(in alloc; " {}/{}", weight.num(), weight.den()).expect(rt, "memory"))
+            .expect(rt, "memory");
+    }
+    text
+}
+
+fn shown_zeros(rt: &impl Abort, alloc: Global, zeros: &Indices) -> String {
+    let mut text = String::new(alloc);
+    for k in 0..zeros.len() {
+        text.push_str(&format!(in alloc; " {}", zeros.at(k)).expect(rt, "memory"))
+            .expect(rt, "memory");
+    }
+    text
+}
+
+fn shown_op(rt: &impl Abort, alloc: Global, op: &PlaceOp) -> String {
+    match op {
+        PlaceOp::Tableau(entry) => format!(in alloc;
+            "{} {} {} at {} {}",
+            name_of(entry.op.kind),
+            entry.op.left,
+            entry.op.right,
+            entry.row,
+            entry.column
+        ),
+        PlaceOp::Weight { vector, op } => format!(in alloc;
+            "{} {} {} in weight {}",
+            name_of(op.kind),
+            op.left,
+            op.right,
+            vector
+        ),
+    }
+    .expect(rt, "memory")
+}
+
 fn shown(rt: &impl Abort, alloc: Global, placed: &Placed) -> String {
     match placed {
-        Placed::Inside { weights, steps } => {
-            let mut text = format!(in alloc; "inside").expect(rt, "memory");
-            for k in 0..weights.len() {
-                let weight = weights.at(k);
-                text.push_str(&format!(in alloc; " {}/{}", weight.num(), weight.den()).expect(
-                    rt, "memory",
-                )).expect(rt, "memory");
-            }
-            for k in 0..steps.len() {
-                let step = steps.at(k);
-                text.push_str(&format!(in alloc;
-                    " step {} for {}",
-                    step.entering, step.leaving
-                ).expect(rt, "memory"))
-                    .expect(rt, "memory");
-            }
-            text
-        }
+        Placed::Inside { weights, steps } => format!(in alloc;
+            "inside{}{}",
+            shown_weights(rt, alloc, weights),
+            shown_steps(rt, alloc, steps)
+        ),
         Placed::Outside {
             zeros,
             leaving,
             steps,
-        } => {
-            let mut text = format!(in alloc;
-                "outside leaving {} steps {} zeros",
-                leaving,
-                steps.len()
-            ).expect(rt, "memory");
-            for k in 0..zeros.len() {
-                text.push_str(&format!(in alloc; " {}", zeros.at(k)).expect(rt, "memory"))
-                    .expect(rt, "memory");
-            }
-            text
-        }
-        Placed::Pivots { steps } => {
-            format!(in alloc; "pivots {}", steps.len()).expect(rt, "memory")
-        }
-        Placed::Wide { op: _, steps } => {
-            format!(in alloc; "wide {}", steps.len()).expect(rt, "memory")
-        }
-        Placed::OutOfMemory => format!(in alloc; "memory").expect(rt, "memory"),
+        } => format!(in alloc;
+            "outside leaving {leaving} zeros{}{}",
+            shown_zeros(rt, alloc, zeros),
+            shown_steps(rt, alloc, steps)
+        ),
+        Placed::Pivots { steps } => format!(in alloc; "pivots{}", shown_steps(rt, alloc, steps)),
+        Placed::Wide { op, steps } => format!(in alloc;
+            "wide {}{}",
+            shown_op(rt, alloc, op),
+            shown_steps(rt, alloc, steps)
+        ),
+        Placed::OutOfMemory => format!(in alloc; "memory"),
     }
+    .expect(rt, "memory")
 }
 
 #[tactic(auto, using(crate::proofs::Examples::four_lengths, crate::proofs::PerfectExamples::four_perfect))]
@@ -98,7 +146,7 @@ fn a_step_or_its_refusal(rt: HostRuntime) {
     let made = shown(&rt, alloc, &place(alloc, &vectors, &s, 1, 1));
     assert!(&rt; made.as_str() == "inside 1/3 1/3 1/3 4/3 step 3 for 2");
     let refused = shown(&rt, alloc, &place(alloc, &vectors, &s, 1, 0));
-    assert!(&rt; refused.as_str() == "pivots 0");
+    assert!(&rt; refused.as_str() == "pivots");
 }
 
 #[tactic(auto, using(crate::proofs::Examples::three_lengths, crate::proofs::PerfectExamples::three_perfect))]
@@ -108,18 +156,64 @@ fn outside_and_inside_with_no_step(rt: HostRuntime) {
     let vectors = three_vectors(&rt, alloc);
     let far = matrix(&rt, alloc, 6, 3, 2);
     let outside = shown(&rt, alloc, &place(alloc, &vectors, &far, 1, 0));
-    assert!(&rt; outside.as_str() == "outside leaving 0 steps 0 zeros 1 2");
+    assert!(&rt; outside.as_str() == "outside leaving 0 zeros 1 2");
     let near = matrix(&rt, alloc, 2, 1, 2);
     let inside = shown(&rt, alloc, &place(alloc, &vectors, &near, 2, 0));
     assert!(&rt; inside.as_str() == "inside 1/2 1/2 1/2");
 }
 
-#[tactic(auto, using(crate::proofs::Examples::one_lengths, crate::proofs::Examples::one_entry, crate::proofs::PerfectExamples::one_perfect))]
+#[tactic(auto, using(crate::proofs::Examples::one_lengths, crate::proofs::PerfectExamples::one_perfect))]
 #[test]
 fn zero_over_one_row(rt: HostRuntime) {
     let alloc = rt.alloc();
     let vectors = start_vectors(alloc, 1).expect(&rt, "memory");
-    let s = SymInt::from_lower(alloc, 1, &[0]).expect(&rt, "memory");
+    let s = single(&rt, alloc, 0);
     let text = shown(&rt, alloc, &place(alloc, &vectors, &s, 1, 0));
     assert!(&rt; text.as_str() == "inside 0/1");
+}
+
+// The third vector's exchange subtracts -1 from the greatest whole number.
+#[tactic(auto, using(crate::proofs::Examples::three_lengths, crate::proofs::PerfectExamples::three_perfect))]
+#[test]
+fn the_first_operation_of_the_tableau_that_does_not_fit(rt: HostRuntime) {
+    let alloc = rt.alloc();
+    let vectors = three_vectors(&rt, alloc);
+    let s = matrix(&rt, alloc, i128::MAX, -1, 0);
+    let wide = shown(&rt, alloc, &place(alloc, &vectors, &s, 1, 0));
+    assert!(&rt; wide.as_str() == "wide add 170141183460469231731687303715884105727 1 at 1 7");
+}
+
+#[tactic(auto, using(crate::proofs::Examples::double_vector, crate::proofs::Examples::double_follows))]
+fn double(rt: &impl Abort, alloc: Global) -> VectorList
+    ensures { result ≡ (2 ∷ []) ∷ [] }
+{
+    let mut list = VectorList::new(alloc);
+    list.push(&IntVector::from_slice(alloc, &[2]))
+        .expect(rt, "memory");
+    list
+}
+
+// A quarter over the greatest whole number.
+#[tactic(auto, using(crate::proofs::Examples::double_lengths, crate::proofs::PerfectExamples::double_perfect))]
+#[test]
+fn a_weight_that_does_not_fit(rt: HostRuntime) {
+    let alloc = rt.alloc();
+    let vectors = double(&rt, alloc);
+    let s = single(&rt, alloc, 1);
+    let wide = shown(&rt, alloc, &place(alloc, &vectors, &s, i128::MAX, 0));
+    assert!(&rt; wide.as_str() == "wide mul 4 170141183460469231731687303715884105727 in weight 0");
+}
+
+// A third over the greatest whole number, after a step.
+#[tactic(auto, using(crate::proofs::Examples::four_lengths, crate::proofs::PerfectExamples::four_perfect))]
+#[test]
+fn a_weight_that_does_not_fit_after_a_step(rt: HostRuntime) {
+    let alloc = rt.alloc();
+    let vectors = four_vectors(&rt, alloc);
+    let s = matrix(&rt, alloc, 6, 3, 2);
+    let wide = shown(&rt, alloc, &place(alloc, &vectors, &s, i128::MAX, 1));
+    assert!(&rt;
+        wide.as_str()
+            == "wide mul 3 170141183460469231731687303715884105727 in weight 0 step 3 for 2"
+    );
 }

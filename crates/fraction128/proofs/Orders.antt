@@ -1,16 +1,15 @@
 -- The order of ratios, by products crosswise.
-use Rattle.std.specs.Prelude.{◌≡◌, ◌≢◌, ◌⊎◌, ℕ, ◌+◌, ◌*◌, ◌/◌, ◌%◌, ◌<◌, ◌≤◌, ℤ, pos, negsuc, neg_ℤ, ◌-ℤ◌, ◌*ℤ◌, ◌≤ℤ◌, ◌<ℤ◌, nat_abs}
-use Rattle.std.proofs.Common.{arith, sym, ◌∙◌, ap, ap₂, refl, subst, inl, inr, mul-pos, mod-lt}
+use Rattle.std.specs.Prelude.{◌≡◌, ◌≢◌, ◌⊎◌, ℕ, ◌+◌, ◌*◌, ◌/◌, ◌%◌, ◌<◌, ◌≤◌, ℤ, pos, ◌-ℤ◌, ◌*ℤ◌, ◌≤ℤ◌, ◌<ℤ◌}
+use Rattle.std.proofs.Common.{arith, sym, ◌∙◌, ap, ap₂, subst, inl, inr, mul-pos, mod-lt}
 use Rattle.std.proofs.lemmas.Int.{ints}
 use Rattle.std.specs.Ordering.{nat_cmp, int_cmp, MatchOrdering}
 use Rattle.std.specs.Cmp.{nat_cmp_is, ranks, int_cmp_is, int_ranks}
 use Rattle.std.specs.declared.cmp.Ordering.{Ordering}
 use Rattle.std.specs.declared.cmp.Ordering.TheVariants.{Less, Equal, Greater}
 use native.Mathlib.Nat.{div-add-mod', mul_comm, mul-lt-mul_of_pos_right, mul-le-mul_right}
-use Rattle.commutative_ring.proofs.Laws.{neg_mul_ℤ}
 use Rattle.commutative_ring.proofs.Expand.{expand, linear}
 use Rattle.exact_forms.specs.Rational.{Rational, ◌<ℚ◌}
-use Rattle.exact_forms.proofs.Order.{positive_mul, nonneg_mul}
+use Rattle.exact_forms.proofs.Order.{positive_mul}
 use Rattle.exact_forms.proofs.Rational.{same_rational}
 use Rattle.fraction128.specs.Order.{order_of}
 
@@ -67,44 +66,6 @@ pub turned : (r s b d : ℕ) → nat_cmp (r * d) (s * b) ≡ nat_cmp (d * r) (b 
 turned r s b d = ap₂ nat_cmp (mul_comm r d) (mul_comm s b)
 
 -- ---- signs
-both_counted : (m n : ℕ) → nat_cmp m n ≡ int_cmp (pos m) (pos n)
-both_counted m n = int_cmp_is (pos m) (pos n) (nat_cmp m n) (each_case (nat_cmp m n) (λ h. omega (arith, ints)) (λ h. ap pos h) (λ h. omega (arith, ints)) (ranks m n))
-
-both_negative : (m n : ℕ) → nat_cmp n m ≡ int_cmp (neg_ℤ (pos m)) (neg_ℤ (pos n))
-both_negative m n =
-    int_cmp_is (neg_ℤ (pos m)) (neg_ℤ (pos n)) (nat_cmp n m) (each_case (nat_cmp n m) (λ h. omega (arith, ints)) (λ h. ap (λ k. neg_ℤ (pos k)) (sym h)) (λ h. omega (arith, ints)) (ranks n m))
-
-pub order_nonnegative : (a b c d : ℤ) → pos 0 ≤ℤ a → pos 0 ≤ℤ c → pos 1 ≤ℤ b → pos 1 ≤ℤ d → nat_cmp (nat_abs a * nat_abs d) (nat_abs c * nat_abs b) ≡ int_cmp (a *ℤ d) (c *ℤ b)
-order_nonnegative a b c d ha hc hb hd = both_counted (nat_abs a * nat_abs d) (nat_abs c * nat_abs b) ∙ ap₂ int_cmp (counted a d ha hd) (counted c b hc hb)
-  where
-    counted : (x y : ℤ) → pos 0 ≤ℤ x → pos 1 ≤ℤ y → pos (nat_abs x * nat_abs y) ≡ x *ℤ y
-    counted (pos m) (pos n) h k = refl
-    counted (negsuc m) y h k = absurd (omega (arith, ints))
-    counted (pos m) (negsuc n) h k = absurd (omega (arith, ints))
-
-pub order_negative : (a b c d : ℤ) → a <ℤ pos 0 → c <ℤ pos 0 → pos 1 ≤ℤ b → pos 1 ≤ℤ d → nat_cmp (nat_abs c * nat_abs b) (nat_abs a * nat_abs d) ≡ int_cmp (a *ℤ d) (c *ℤ b)
-order_negative a b c d ha hc hb hd = both_negative (nat_abs a * nat_abs d) (nat_abs c * nat_abs b) ∙ ap₂ int_cmp (counted a d ha hd) (counted c b hc hb)
-  where
-    counted : (x y : ℤ) → x <ℤ pos 0 → pos 1 ≤ℤ y → neg_ℤ (pos (nat_abs x * nat_abs y)) ≡ x *ℤ y
-    counted (negsuc m) (pos n) h k = omega (arith, ints)
-    counted (pos m) y h k = absurd (omega (arith, ints))
-    counted (negsuc m) (negsuc n) h k = absurd (omega (arith, ints))
-
-at_least : (x y : ℤ) → pos 0 ≤ℤ x → pos 1 ≤ℤ y → pos 0 ≤ℤ (x *ℤ y)
-at_least x y h k = nonneg_mul x y h (omega (arith, ints))
-
-under : (x y z : ℤ) → pos 0 ≤ℤ z → x <ℤ pos 0 → pos 1 ≤ℤ y → (x *ℤ y) <ℤ z
-under x y z hz hx hy =
-    let p : pos 1 ≤ℤ (neg_ℤ x *ℤ y) = positive_mul (neg_ℤ x) y (omega (arith, ints)) hy in
-    let q = simp neg_mul_ℤ at p in
-    omega (arith, linear)
-
-pub order_greater : (a b c d : ℤ) → pos 0 ≤ℤ a → c <ℤ pos 0 → pos 1 ≤ℤ b → pos 1 ≤ℤ d → Greater ≡ int_cmp (a *ℤ d) (c *ℤ b)
-order_greater a b c d ha hc hb hd = int_cmp_is (a *ℤ d) (c *ℤ b) Greater (under c b (a *ℤ d) (at_least a d ha hd) hc hb)
-
-pub order_less : (a b c d : ℤ) → a <ℤ pos 0 → pos 0 ≤ℤ c → pos 1 ≤ℤ b → pos 1 ≤ℤ d → Less ≡ int_cmp (a *ℤ d) (c *ℤ b)
-order_less a b c d ha hc hb hd = int_cmp_is (a *ℤ d) (c *ℤ b) Less (under a d (c *ℤ b) (at_least c b hc hb) ha hd)
-
 -- ---- one denominator
 pub order_same_den : (a c d : ℤ) → pos 1 ≤ℤ d → int_cmp a c ≡ int_cmp (a *ℤ d) (c *ℤ d)
 order_same_den a c d hd = same_rank_ℤ a c (a *ℤ d) (c *ℤ d) (below a c) (λ e. ap (λ (z : ℤ). z *ℤ d) e) (below c a)

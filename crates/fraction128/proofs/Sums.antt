@@ -3,7 +3,7 @@ use Rattle.std.specs.Prelude.{◌≡◌, ℕ, ◌*◌, ◌/◌, ◌<◌, ◌^◌
 use Rattle.std.proofs.Common.{arith, sym, ◌∙◌, ap, ap₂, refl, subst, mul-pos, lt_of_le_of_lt}
 use Rattle.std.proofs.lemmas.Int.{ints}
 use Prim.Native.Nat.{◌∣◌}
-use native.Mathlib.Nat.{pos_of_dvd_of_pos, div-mul_cancel, div-le_self, div_self}
+use native.Mathlib.Nat.{div-mul_cancel, div-le_self, div_self}
 use Rattle.std.proofs.lemmas.Nat.Gcd.{dvd_trans}
 use Rattle.commutative_ring.specs.Gcd.{gcd_of}
 use Rattle.commutative_ring.proofs.Gcd.{gcd_of_is}
@@ -82,9 +82,6 @@ last x y = gcd_of (nat_abs (total x y)) (shared x y)
 
 abbrev pub last_op : Rational → Rational → IntOp
 last_op x y = mul_op (pos (own x y)) (pos (y.den / last x y))
-
-shared_positive : (x y : Rational) → 0 < shared x y
-shared_positive x y = pos_of_dvd_of_pos (gcd_of_is x.den y.den).0 (den_positive x)
 
 last_divides : (x y : Rational) → last x y ∣ y.den
 last_divides x y = dvd_trans (last x y) (gcd_of_is (nat_abs (total x y)) (shared x y)).1 (gcd_of_is x.den y.den).1

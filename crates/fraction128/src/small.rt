@@ -7,7 +7,7 @@ ghost use Rattle.symmetric_matrix.specs.Operations.{is_owed, mul_op};
 
 use symmetric_matrix::{IntOp, int_mul};
 
-// The magnitude is at most 2^63 - 1.
+/// Whether the magnitude is at most 2^63 - 1.
 #[inline]
 pub fn is_small(value: i128) -> bool
     ensures { IsTrue result ↔ (nat_abs value < 2 ^ 63) }

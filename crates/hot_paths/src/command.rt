@@ -9,14 +9,16 @@ pub enum Operation {
     Additions,
     /// Products of fractions.
     Products,
-    /// Children of cones.
+    /// Splits of cones.
     Cones,
 }
 
 /// An operation, and how many times it is to be done.
 #[derive(Clone, Copy, Debug, PartialEq, Eq)]
 pub struct Command {
+    /// What is repeated.
     pub operation: Operation,
+    /// How many times.
     pub count: u64,
 }
 

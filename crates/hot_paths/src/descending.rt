@@ -1,4 +1,4 @@
-//! Children of cones.
+//! Splits of cones.
 
 ghost use Rattle.std.specs.Prelude.{◌<◌, length};
 
@@ -6,7 +6,7 @@ use crate::draws::Draws;
 use crate::matrices::matrix;
 use std::alloc::{AllocError, Global};
 use symmetric_matrix::SymInt;
-use unimodular_cone::{Cone, ConeRead, child, pair, root};
+use unimodular_cone::{Cone, ConeRead, children_fit, pair, root};
 
 /// The depth at which a descent begins again at the root.
 const DEPTH: u8 = 20;
@@ -21,8 +21,8 @@ const TABLE: [[i64; 6]; 6] = [
     [-1, -1, -1, -1, -1, 1],
 ];
 
-/// Makes children of cones, each on a side of its parent's pair, down from the root on one path after the other, and says how
-/// many: `count` of them, or those before the first that can't be made. It is refused for want of memory alone.
+/// Splits cones at their pairs and goes on with one child of each, down from the root on one path after the other, and says how
+/// many: `count` of them, or those before the first that can't be split. It is refused for want of memory alone.
 pub fn cones(alloc: Global, count: u64) -> Result<u64, AllocError> {
     let matrix = matrix(alloc, &TABLE)?;
     let mut draws = Draws::new();
@@ -30,30 +30,34 @@ pub fn cones(alloc: Global, count: u64) -> Result<u64, AllocError> {
         return Ok(0);
     };
     for made in 0..count {
-        match next(&cone, &matrix, draws.below(2) as u8) {
-            Some(child) => cone = child,
-            None => return Ok(made),
+        if next(&mut cone, &matrix, draws.below(2)).is_none() {
+            return Ok(made);
         }
     }
     Ok(count)
 }
 
-// The child on a side of a cone's pair, and of the root's where the cone is at the depth.
-fn next(cone: &Cone, matrix: &SymInt, side: u8) -> Option<Cone>
-    requires { side < 2 }
-{
+// Goes down from a cone, and from the root where the cone is at the depth.
+fn next(cone: &mut Cone, matrix: &SymInt, side: u64) -> Option<()> {
     if cone.path().len() < DEPTH {
-        child_of(cone, side)
-    } else {
-        child_of(&root(matrix).ok()?, side)
+        return go_down(cone, side);
     }
+    *cone = root(matrix).ok()?;
+    go_down(cone, side)
 }
 
-// None where the cone has no pair, or the child doesn't fit.
-fn child_of(cone: &Cone, side: u8) -> Option<Cone>
-    requires digit { side < 2 }
-    requires room { length cone.now.path < 200 }
+// Splits a cone as the search does, and goes on with its child on a side. None where the cone has no pair, or a child doesn't
+// fit.
+fn go_down(cone: &mut Cone, side: u64) -> Option<()>
+    requires { length cone.old.path < 200 }
 {
     let (i, j) = pair(cone)?;
-    child(cone, i, j, side).ok()
+    let None = children_fit(cone, i, j) else {
+        return None;
+    };
+    let zero = cone.split(i, j);
+    if side == 0 {
+        *cone = zero;
+    }
+    Some(())
 }

@@ -14,6 +14,7 @@ const OPERANDS: usize = 1000;
 /// How many results there are, and what they sum to, so that none goes unused.
 #[derive(Clone, Copy, Debug, PartialEq, Eq)]
 pub struct Folded {
+    /// How many results there are.
     pub made: u64,
     /// The sum of the numerators and the denominators, modulo 2^128.
     pub total: i128,

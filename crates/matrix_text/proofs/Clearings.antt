@@ -17,6 +17,7 @@ use Rattle.commutative_ring.proofs.Lowest.{gcd_positive, part_positive, part_tim
 use Rattle.exact_forms.specs.Rational.{Rational, ratio}
 use Rattle.exact_forms.specs.Triangles.{triangle, entry_in}
 use Rattle.exact_forms.proofs.Rational.{den_positive, ratio_parts, ratio_same}
+pub use Rattle.exact_forms.proofs.RationalOrder.{at_least_one}
 use Rattle.exact_forms.proofs.Triangles.{triangle_more, triangle_grows, entry_in_below}
 use Rattle.symmetric_matrix.specs.declared.operation.IntOp.{IntOp}
 use Rattle.symmetric_matrix.specs.Owed.{answer}
@@ -266,9 +267,6 @@ numerators-over d (q ∷ qs) some h = ap₂ (λ x xs. x ∷ xs) (over d q some h
 pub gcd_some : (a d : ℕ) → 0 < d → 0 < gcd_of a d
 gcd_some a zero h = absurd (omega arith)
 gcd_some a (suc d) h = gcd_positive a d
-
-pub at_least_one : (n : ℕ) → 0 < n → pos 1 ≤ℤ pos n
-at_least_one n h = omega (arith, ints)
 
 -- ---- the loops
 

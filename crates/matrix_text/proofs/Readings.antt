@@ -1,15 +1,14 @@
 -- From the rows of a text to its matrix.
-use Rattle.std.proofs.Common.{◌≡◌, ℕ, List, [], ◌∷◌, length, take, map, Option, Some, None, Result, Ok, Err, refl, sym, ap, ◌∙◌, inl, inr, arith}
+use Rattle.std.proofs.Common.{◌≡◌, ℕ, List, [], ◌∷◌, length, take, map, Option, None, Result, Ok, Err, refl, sym, ap, ◌∙◌, inl, inr, arith}
 use Rattle.std.proofs.lemmas.List.{length-map, length-take-le}
 use Rattle.exact_forms.specs.Rational.{Rational}
 use Rattle.matrix_text.specs.Lines.{content_lines, end_line}
 use Rattle.matrix_text.specs.Square.{lower_of, first_unlike}
 use Rattle.matrix_text.specs.RationalMatrix.{RationalMatrix}
-use Rattle.matrix_text.specs.Matrix.{none, same_number, entries_of, line_of_row, mirrored, table_of, matrix_of, MatrixText, MatrixFault, HasOneReading}
+use Rattle.matrix_text.specs.Matrix.{none, same_number, entries_of, mirrored, table_of, matrix_of, MatrixText, MatrixFault, HasOneReading}
 use Rattle.matrix_text.specs.Rows.{text_row, table_rows, table_entries}
 use Rattle.matrix_text.specs.declared.table.Row.{Row}
 use Rattle.matrix_text.specs.declared.table.Table.{Table}
-use Rattle.matrix_text.specs.declared.fault.TextKind.TheVariants.{NotSymmetric}
 use Rattle.matrix_text.specs.declared.fault.TextFault.{TextFault}
 
 entries-rows : (size : ℕ) (rows : List Row) → entries_of (map (text_row size) rows) ≡ map (λ (row : Row). take size row.entries) rows
@@ -34,9 +33,6 @@ symmetric-table t first alike = rw (alike, length-table t) (ap (λ (rows : List 
   where
     made : RationalMatrix → Result RationalMatrix TextFault
     made a = Ok a
-
-pub unlike-table : (t : Table) (first : Option ℕ) (i : ℕ) → first ≡ Some i → mirrored (table_rows t) first ≡ Err (record { kind = NotSymmetric; line = line_of_row (table_rows t) i })
-unlike-table t first i unlike = rw unlike refl
 
 pub fault-read : (bytes : List ℕ) (fault : TextFault) → table_of (record { lines = content_lines bytes; end = end_line bytes }) ≡ Err fault → MatrixFault bytes fault.kind fault.line
 unfolding matrix_of MatrixFault

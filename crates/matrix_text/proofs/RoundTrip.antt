@@ -95,7 +95,7 @@ some-fraction q h =
       | inr other ↦ rw (ne_eqb q.den 1 other, length-append (signed_decimal q.num) (47 ∷ decimal q.den)) (omega (arith, some))
     ]
 
-no_blank : (b : ℕ) → 48 ≤ b → b ≤ 57 → is_blank b ≡ false
+pub no_blank : (b : ℕ) → 48 ≤ b → b ≤ 57 → is_blank b ≡ false
 no_blank b low high = rw (ne_eqb b 32 (λ e. omega arith), ne_eqb b 9 (λ e. omega arith), ne_eqb b 13 (λ e. omega arith)) refl
 
 word-fraction : (q : Rational) → IsShort q → IsWord (fraction_word q)

@@ -10,7 +10,7 @@ use Rattle.matrix_text.specs.Lines.{is_blank, is_line_feed, is_nonempty, words, 
 use Rattle.matrix_text.specs.Matrix.{rows_of, header_of, size_of_word, is_ascii, in_line, table_of}
 use Rattle.matrix_text.proofs.Cuts.{IsWord, words-join, IsLine, lines-ended}
 use Rattle.matrix_text.proofs.Numerals.{is_whole-decimal, whole_value-decimal, All-decimal}
-use Rattle.matrix_text.proofs.RoundTrip.{row_line, line-row, in_line-row, kept-row}
+use Rattle.matrix_text.proofs.RoundTrip.{no_blank, row_line, line-row, in_line-row, kept-row}
 use Rattle.exact_forms.specs.Rational.{Rational}
 use Rattle.matrix_text.specs.Matrix.{TextRow}
 use Rattle.matrix_text.specs.Canonical.{row_text, rows_text, header_line, table_text, IsShort}
@@ -40,9 +40,6 @@ rows-read n end k (row ∷ rows) some h = rw (content-rows n k row rows some h.0
 
 -- ---- the header
 
-digit_blank : (b : ℕ) → 48 ≤ b → b ≤ 57 → is_blank b ≡ false
-digit_blank b low high = rw (ne_eqb b 32 (λ e. omega arith), ne_eqb b 9 (λ e. omega arith), ne_eqb b 13 (λ e. omega arith)) refl
-
 name_word : IsWord (codes "cpmatrix")
 name_word = record { some = refl; clear = All-from_recursion (λ b. is_blank b ≡ false) (codes "cpmatrix") (refl, (refl, (refl, (refl, (refl, (refl, (refl, (refl, tt)))))))) }
 
@@ -54,7 +51,7 @@ left_true true b e = refl
 left_true false b e = absurd cc
 
 size_word : (n : ℕ) → n < 2 ^ 64 → IsWord (decimal n)
-size_word n h = record { some = left_true (is_nonempty (decimal n)) (all_ascii_digits (decimal n)) (is_whole-decimal n h); clear = All-decimal (λ b. is_blank b ≡ false) digit_blank n h }
+size_word n h = record { some = left_true (is_nonempty (decimal n)) (all_ascii_digits (decimal n)) (is_whole-decimal n h); clear = All-decimal (λ b. is_blank b ≡ false) no_blank n h }
 
 words-header : (n : ℕ) → n < 2 ^ 64 → words (header_line n) ≡ codes "cpmatrix" ∷ codes "1" ∷ decimal n ∷ []
 words-header n h = words-join (codes "cpmatrix" ∷ codes "1" ∷ decimal n ∷ []) (name_word, (version_word, (size_word n h, tt)))

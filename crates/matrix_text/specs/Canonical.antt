@@ -2,7 +2,9 @@
 --
 --     fraction_word q     the numerator, with `/` and the denominator where that is not 1, in lowest terms
 --     row_text row        the words of a row, with one space between them, and a line feed
---     table_text rows     the line of the words `cpmatrix`, `1` and the number of rows, and the rows
+--     header_line n       the words `cpmatrix`, `1` and n, with one space between them
+--     rows_text rows      the rows, one after the other
+--     table_text rows     the header line of the number of rows, a line feed, and the rows
 --     matrix_text a       the full symmetric matrix
 --     IsShort q           the magnitude of the numerator and the denominator are at most 9223372036854775807
 --     IsShortMatrix a     1 to 6 rows, each entry short

@@ -1,11 +1,17 @@
 -- Clearing a matrix of its denominators.
 --
 --     multiple e d             e·(d/gcd(e,d)), the least common multiple of e and d
---     placed_entries a         the entries with their rows and columns, from 1: (1,1), (2,1), (2,2), (3,1) and so on
+--     PlacedEntry, PlacedOp    an entry, an operation, with its row and column, from 1
+--     is_placed_owed op        the operation is owed
+--     at_place p op            the operation at the place of the entry p
+--     placed_row a i           the entries of row i, from 0, up to the diagonal
+--     placed_entries a         the entries in the order (1,1), (2,1), (2,2), (3,1) and so on
 --     common_multiple e ps     the least common multiple of e and the entries' denominators
 --     denominator_ops e ps     the multiplications that make it, each at its entry
 --     numerator_ops d ps       the multiplications of each numerator by d over its denominator
---     clear_ops a              both, for the least common denominator
+--     least_denominator a      the least common multiple of all denominators
+--     clear_ops a              both, for that denominator
+--     numerators_over d qs     the numerators of the fractions over d
 --     cleared_of a             the numerators over the least common denominator, and that denominator
 --     IsLeastCommon d qs       d is a common multiple of the denominators, and divides each other one
 --     IsCleared a s d          A = S/d, where d is the least common denominator
@@ -38,7 +44,6 @@ is_placed_owed placed = is_owed placed.op
 abbrev pub at_place : PlacedEntry → IntOp → PlacedOp
 at_place p op = record { row = p.row; column = p.column; op = op }
 
--- row i of the triangle, from 0
 unfoldable pub placed_row : RationalMatrix → ℕ → List PlacedEntry
 placed_row a i = map (λ j. record { row = i + 1; column = j + 1; value = rational_entry a i j }) (range_with_len 0 (i + 1))
 
@@ -62,7 +67,6 @@ least_denominator a = common_multiple 1 (placed_entries a)
 unfoldable pub clear_ops : RationalMatrix → List PlacedOp
 clear_ops a = denominator_ops 1 (placed_entries a) ++ numerator_ops (least_denominator a) (placed_entries a)
 
--- the numerators over this denominator
 unfoldable pub numerators_over : ℕ → List Rational → List ℤ
 numerators_over d qs = map (λ q. q.num *ℤ pos (d / q.den)) qs
 

@@ -1,15 +1,33 @@
 -- The text of a matrix: what it stands for, or its first fault.
 --
---     entry_of word            the fraction that a word writes, or BadNumber, NumberTooLarge, ZeroDenominator
+--     result >>= f             f of the value, or the error
+--     is_large n               n is over 9223372036854775807
+--     ratio_of top bottom      the fraction of a signed and a whole word, or BadNumber, NumberTooLarge, ZeroDenominator
+--     is_slash b               the byte is `/`
+--     parted word at           the fraction of the word's two parts beside this position, or of the word over 1
+--     entry_of word            the fraction that a word writes, or its fault
 --     row_of n words           the fractions of n words, or the fault of the first that has one; ShortRow, LongRow
+--     size_of_word word        the number of a whole word, from 1 to 6; BadDimension
 --     header_of words          the number n of the words `cpmatrix`, `1`, n; NoHeader, BadVersion, BadDimension
+--     is_ascii bytes           each byte is below 128
+--     at_line k read           what was read, its fault at line k
 --     in_line read line        what is read of a line's words; NotAscii before every other fault of the line
+--     TextRow                  a row's entries, and the line where it stands
 --     rows_of n end k lines    k rows of n entries and no further line; MissingRow at the end line, ExtraLine
+--     Gives view result read   the result, its value seen by view, is what was read
+--     table_of_lines end lines the rows of the size that the first line names; NoHeader at the end line
 --     table_of text            the header and the rows
+--     none                     0
+--     same_number x y          the two numbers are equal
+--     entries_of rows          the rows without their lines
+--     line_of_row rows i       the line of row i
+--     mirrored rows first      the matrix of the rows, or NotSymmetric at the line of the row `first`
 --     matrix_of bytes          the matrix; NotSymmetric, where no other fault is, at the line of the first row
 --                              that is not as its column, left of the diagonal
 --     MatrixText bytes a       the bytes are a text of the matrix
 --     MatrixFault bytes k l    the first fault of the bytes is of this kind, at this line
+--     IsTextOfOne bytes a      they are a text of this matrix, of no other, and have no fault
+--     IsFaultyOnce bytes f     this is their first fault, there is no other, and they are a text of no matrix
 --     HasOneReading bytes      exactly one of the two holds, for exactly one value
 --
 -- Lines count from 1, rows and columns from 0.
@@ -36,7 +54,6 @@ abbrev pub ◌>>=◌ : {A B E : Type 0} → Result A E → (A → Result B E) �
 abbrev pub is_large : ℕ → Bool
 is_large n = nat_lt 9223372036854775807 n
 
--- the fraction of two words, the lower one a whole number
 unfoldable pub ratio_of : List ℕ → List ℕ → Result Rational TextKind
 ratio_of top bottom =
     if not (is_signed top && is_whole bottom) then Err BadNumber
@@ -67,11 +84,9 @@ row_of (suc n) (word ∷ more) = do
   entries ← row_of n more
   Ok (entry ∷ entries)
 
--- a whole word of value 1 to 6
 unfoldable pub size_of_word : List ℕ → Result ℕ TextKind
 size_of_word word = if is_whole word && nat_lt 0 (whole_value word) && nat_lt (whole_value word) 7 then Ok (whole_value word) else Err BadDimension
 
--- the size that the header names
 unfoldable pub header_of : List (List ℕ) → Result ℕ TextKind
 header_of (name ∷ version ∷ size ∷ []) =
     if not (bytes_eq name (codes "cpmatrix")) then Err NoHeader
@@ -106,7 +121,6 @@ rows_of size end (suc k) (line ∷ more) = do
   rows ← rows_of size end k more
   Ok (record { line = line.number; entries = entries } ∷ rows)
 
--- what a function returned, seen by view, is what reading gives
 abbrev pub Gives : {X Y E : Type 0} → (X → Y) → Result X E → Result Y E → Type 0
 Gives view (Ok x) read = read ≡ Ok (view x)
 Gives view (Err e) read = read ≡ Err e
@@ -117,7 +131,6 @@ table_of_lines end (line ∷ more) = do
   size ← in_line header_of line
   rows_of size end size more
 
--- the header and the rows
 unfoldable pub table_of : Content → Result (List TextRow) TextFault
 table_of text = table_of_lines text.end text.lines
 

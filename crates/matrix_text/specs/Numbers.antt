@@ -1,9 +1,13 @@
 -- Words that stand for numbers, and their values.
 --
---     is_whole word       one or more digits
---     whole_value word    the number that they write, however many they are
---     is_signed word      a whole word, with or without one `-` before it
---     signed_value word   its number; `-0` is 0
+--     is_whole word            one or more digits
+--     value_after n word       the number that they write after those of n
+--     whole_value word         the number that they write, however many they are
+--     begins_with_minus word   its first byte is `-`
+--     without_minus word       what follows that byte, or the whole word
+--     is_signed word           a whole word, with or without one `-` before it
+--     magnitude word           its number without the sign
+--     signed_value word        its number; `-0` is 0
 use Rattle.std.specs.Prelude.{ℕ, ◌+◌, ◌-◌, ◌*◌, Bool, false, ◌&&◌, List, [], ◌∷◌, ◌==◌, if◌then◌else◌, ℤ, pos, neg_ℤ}
 use Rattle.std.specs.Str.{all_ascii_digits}
 use Rattle.matrix_text.specs.Lines.{is_nonempty}
@@ -11,7 +15,6 @@ use Rattle.matrix_text.specs.Lines.{is_nonempty}
 abbrev pub is_whole : List ℕ → Bool
 is_whole word = is_nonempty word && all_ascii_digits word
 
--- the number that the digits write when they follow those of n
 unfoldable pub value_after : ℕ → List ℕ → ℕ
 value_after n [] = n
 value_after n (digit ∷ more) = value_after (n * 10 + (digit - 48)) more
@@ -30,7 +33,6 @@ without_minus (byte ∷ more) = if byte == 45 then more else byte ∷ more
 unfoldable pub is_signed : List ℕ → Bool
 is_signed word = is_whole (without_minus word)
 
--- the number without its sign
 unfoldable pub magnitude : List ℕ → ℕ
 magnitude word = whole_value (without_minus word)
 

@@ -1,6 +1,6 @@
 //! The lines of a text that are not skipped.
 
-ghost use Rattle.std.specs.Prelude.{◌≡◌, ◌+◌, ◌<◌, ◌^◌, List, [], ◌∷◌, ℕ, length, MatchOption, MatchResult, position};
+ghost use Rattle.std.specs.Prelude.{◌≡◌, ◌+◌, ◌<◌, ◌^◌, [], ◌∷◌, length, MatchOption, MatchResult, position};
 ghost use Rattle.matrix_text.specs.Lines.{is_line_feed, words, lines, are_skipped, content_from, content_lines, end_line, Content};
 ghost use Rattle.matrix_text.specs.Content.{line_of};
 

@@ -5,12 +5,15 @@
 #![tactic(auto)]
 
 mod clearing;
+/// The content lines of a text: those that are not skipped, each with its number.
 pub mod content;
 mod entry;
 mod fault;
 mod header;
+/// Laws of the texts: each has one reading, and what is written is read.
 pub mod laws;
 mod matrix;
+/// The numbers that words write.
 pub mod numbers;
 mod reading;
 mod rows;
@@ -18,6 +21,7 @@ mod symmetry;
 mod table;
 #[cfg(test)]
 mod tests;
+/// The words of a line.
 pub mod words;
 mod writing;
 

@@ -1,6 +1,6 @@
 //! Whether a table is symmetric, and its lower triangle.
 
-ghost use Rattle.std.specs.Prelude.{◌≡◌, ◌+◌, ◌<◌, ◌≤◌, ◌++◌, [], OnOk, IfOk, IfSome, take, slice_index_or};
+ghost use Rattle.std.specs.Prelude.{◌≡◌, ◌+◌, ◌<◌, ◌++◌, [], OnOk, IfOk, IfSome, take, slice_index_or};
 ghost use Rattle.matrix_text.specs.Square.{entry_at, lower_of, mirrors, first_unlike};
 ghost use Rattle.matrix_text.specs.Matrix.{none, same_number};
 ghost use Rattle.matrix_text.specs.Rows.{table_entries};

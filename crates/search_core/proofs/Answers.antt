@@ -17,6 +17,7 @@ use Rattle.unimodular_cone.proofs.Covers.{value_same, closed_attains, IsNonzeroB
 use Rattle.unimodular_cone.proofs.Bounded.{closed_or_not}
 use Rattle.unimodular_cone.proofs.Generators.{proper}
 use Rattle.search_core.proofs.LeastValues.{least_value_attained, start_is_large}
+use Rattle.unimodular_cone.proofs.Minimum.{nonneg_place}
 use Rattle.unimodular_cone.proofs.Tree.{above_child, none_above_root, HasChildren, StopsAt, descend_from_root}
 use Rattle.search_core.proofs.Settle.{IsLimitFate, split_or_limit, split_can}
 use Rattle.search_core.proofs.Fairness.{judged_in_tree, none_low, low_is_judged, limit_is_open, settles_low, settles_open, settles_none_open}
@@ -26,9 +27,6 @@ pub final_bound : (m : Mode) (n : ℕ) (q : Matrix) (d : ℕ) (judged : List Jud
     → IsFinalBound m n q d (bound_under m final)
 final_bound Sign n q d judged final s fair small large some narrow = refl
 final_bound Least n q d judged final s fair small large some narrow = final_bound_Least n q d judged final s fair small large some narrow
-
-nonneg_place : (n : ℕ) (x : List ℕ) → AreNonnegative n (coordinate x)
-nonneg_place n x k l = omega (arith, ints)
 
 bound_positive : (final : ℕ) → pos 1 ≤ℤ bound_under Least final
 bound_positive final = omega (arith, ints)

@@ -5,11 +5,11 @@ use Rattle.std.specs.List.{Contains}
 use Rattle.unimodular_cone.specs.Paths.{Path}
 use Rattle.unimodular_cone.specs.Cones.{Matrix}
 use Rattle.unimodular_cone.specs.declared.Mode.{Mode}
-use Rattle.search_core.specs.Fair.{Fate, Closed, Split, Low, Dropped, AtLimit, Wide, Judged, code, start_word, IsSplit, IsJudgement, HasPath, IsDue, HasNoPath, IsOnceEach, IsFinalWord, IsFair}
-use Rattle.search_core.specs.Machine.{Hand, Empty, Offered, State, Event, children_of, held, in_hands, paths, standing, below_splits, due, times, IsCoded, IsKept, AreEmpty, IsStart, IsEnd, IsRun}
-use Rattle.unimodular_cone.proofs.Unique.{contains_here, contains_there, contains_cons}
+use Rattle.search_core.specs.Fair.{Fate, Closed, Split, Low, Dropped, AtLimit, Wide, Judged, code, start_word, IsSplit, HasPath, IsDue, HasNoPath, IsOnceEach, IsFair}
+use Rattle.search_core.specs.Machine.{Hand, Empty, Offered, State, children_of, held, in_hands, paths, standing, below_splits, due, times, IsCoded, IsKept, AreEmpty, IsStart, IsEnd}
+use Rattle.exact_forms.proofs.Vectors.{contains_here, contains_there, contains_cons}
 use Rattle.search_core.proofs.Times.{times-append, times_cons, times_same, times_other, times_none, path_or_not, due_once}
-use Rattle.search_core.proofs.Kept.{times_standing, step_keeps}
+use Rattle.search_core.proofs.Kept.{times_standing}
 
 empty_hands : (x : Path) (hands : List Hand) → AreEmpty hands → times x (in_hands hands) ≡ 0
 empty_hands x [] e = times_none x
@@ -45,10 +45,6 @@ start_is_kept m n q d s start = record {
     none : (p : Path) → IsCoded s p → ⊥
     none p (inl (j, c, e)) = no_judgement j (subst (λ (w : List Judged). Contains w j) start.judged c)
     none p (inr (k, w, l, e)) = not_offered (start.hands k) e
-
-pub run_keeps : (m : Mode) (n : ℕ) (q : Matrix) (d : ℕ) (s t : State) (events : List Event) → IsKept m n q d s → IsRun m n q d s events t → IsKept m n q d t
-run_keeps m n q d s t [] kept run = subst (IsKept m n q d) run kept
-run_keeps m n q d s t (e ∷ events) kept (u, step, run) = run_keeps m n q d u t events (step_keeps m n q d s u e kept step) run
 
 -- ---- where a path stands at least once
 has_path : (x : Path) (judged : List Judged) → 1 ≤ times x (paths judged) → HasPath judged x
@@ -171,12 +167,3 @@ end_is_fair m n q d s kept ends = record {
     attained (inl e) = inl e
     attained (inr (p, (inl (j, c, e)), f)) = inr (j, c, f ∙ ap (code m n q) (sym e))
     attained (inr (p, (inr (k, w, l, e)), f)) = absurd (not_offered (ends.hands k) e)
-
-pub run_is_fair : (m : Mode) (n : ℕ) (q : Matrix) (d : ℕ) (s t : State) (events : List Event) → IsStart m n q s → IsRun m n q d s events t → IsEnd t → IsFair m n q d t.judged t.word
-run_is_fair m n q d s t events start run ends = end_is_fair m n q d t (run_keeps m n q d s t events (start_is_kept m n q d s start) run) ends
-
--- a list with the right counts, right judgements and the least word is fair: all that a pool of workers has to show
-pub fair_of_counts : (m : Mode) (n : ℕ) (q : Matrix) (d : ℕ) (judged : List Judged) (final : ℕ) → ((x : Path) → times x (paths judged) ≡ times x (due judged))
-    → ((j : Judged) → Contains judged j → IsJudgement m n q d final j) → IsFinalWord m n q judged final → IsFair m n q d judged final
-fair_of_counts m n q d judged final counts judgements final_word = let a = are_due judged counts in
-    record { due = a.due; no_other = a.no_other; once = a.once; judgements = judgements; final_word = final_word }

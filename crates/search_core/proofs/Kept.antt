@@ -9,10 +9,10 @@ use Rattle.unimodular_cone.specs.declared.Mode.{Mode}
 use Rattle.unimodular_cone.specs.declared.Mode.TheVariants.{Sign, Least}
 use Rattle.unimodular_cone.specs.Tree.{IsLow, IsLowValue}
 use Rattle.search_core.specs.Fair.{Fate, Closed, Split, Low, Dropped, AtLimit, Wide, Judged, word_of, least_value, code_of, code, start_word, IsFate, IsJudgement}
-use Rattle.search_core.specs.Machine.{Hand, Empty, Taken, Offered, State, Event, Take, Offer, Judge, hand, children_of, IsTake, IsOffer, IsJudge, IsStep, held, in_hands, paths, standing, below_splits, due, times, IsCoded, IsKept}
-use Rattle.unimodular_cone.proofs.Unique.{contains_here, contains_there, contains_cons}
+use Rattle.search_core.specs.Machine.{Hand, Empty, Taken, Offered, State, hand, children_of, IsTake, IsOffer, IsJudge, held, in_hands, paths, standing, below_splits, due, times, IsCoded, IsKept}
+use Rattle.exact_forms.proofs.Vectors.{contains_here, contains_there, contains_cons}
 use Rattle.search_core.proofs.LeastValues.{least_value_le}
-use Rattle.search_core.proofs.Times.{times-append, times_cons, times_hands, times_none, due_once}
+use Rattle.search_core.proofs.Times.{times-append, times_cons, times_hands, times_none}
 
 -- ---- hands
 pub hand_same : (hands : List Hand) (k : ℕ) (h : Hand) → k < length hands → slice_index_or (slice_set hands k h) k Empty ≡ h
@@ -288,11 +288,3 @@ judge_keeps m n q d s t k kept step = record {
         subst (IsJudgement m n q d s.word) same (record { least = refl; fate = o.fate; above_final = o.above_final; below_code = o.below_code })
 
 -- ---- every event
-pub step_keeps : (m : Mode) (n : ℕ) (q : Matrix) (d : ℕ) (s t : State) (e : Event) → IsKept m n q d s → IsStep m n q d s e t → IsKept m n q d t
-step_keeps m n q d s t (Take k path) kept step = take_keeps m n q d s t k path kept step
-step_keeps m n q d s t (Offer k) kept step = offer_keeps m n q d s t k kept step
-step_keeps m n q d s t (Judge k) kept step = judge_keeps m n q d s t k kept step
-
--- so no path stands twice
-pub stands_once : (m : Mode) (n : ℕ) (q : Matrix) (d : ℕ) (s : State) → IsKept m n q d s → (x : Path) → times x (standing s) ≤ 1
-stands_once m n q d s kept x = rw (kept.stands x) (due_once s.judged (λ y. (let a = kept.stands y in omega (arith, times_standing y s))) x)

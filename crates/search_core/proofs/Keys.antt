@@ -18,7 +18,7 @@ use Rattle.symmetric_matrix.proofs.Runs.{Contains-map, Contains-map_back}
 use Rattle.unimodular_cone.specs.Cones.{Matrix, value, cone_at}
 use Rattle.unimodular_cone.specs.Answer.{IsVector}
 use Rattle.unimodular_cone.specs.Shown.{ShownCone, shown_gram, shown_coordinate, shown_generators, IsWithinLimits, IsConeAt}
-use Rattle.unimodular_cone.proofs.Unique.{contains_cons, contains_here, contains_there, vector_unique}
+use Rattle.exact_forms.proofs.Vectors.{contains_cons, contains_here, contains_there, vector_decided}
 use Rattle.unimodular_cone.proofs.ShownLaws.{coordinate_within}
 use Rattle.search_core.specs.Fair.{Judged}
 use Rattle.search_core.specs.Attaining.{IsPadded, IsKeyOf, IsWithKey, AddsAttaining, HasGenerators, IsKey, AreKeys, IsVectorsOf, ListsGenerators}
@@ -134,9 +134,6 @@ key_padded c k n m x w e f lk size same rest = record {
   rest = λ p lp. rest p (omega arith);
 }
 
-pub none_added : (c : ShownCone) (z : ℤ) (keys : List (List ℕ)) → AddsAttaining c 0 z keys keys
-none_added c z keys = record { kept = λ x h. h; added = λ k l e. absurd (omega arith); only = λ x h. inl h }
-
 below_or_last : (k m : ℕ) → k < m + 1 → (k < m) ⊎ (m ≡ k)
 below_or_last k m l = grind arith
 
@@ -174,15 +171,6 @@ none_more c m z old keys h ne = record { kept = h.kept; added = λ k lk ek. at k
 -- ---- the generators of a list of judgements
 padded_same : (n : ℕ) (x : List ℕ) (v w : ℕ → ℤ) → ((p : ℕ) → p < n → v p ≡ w p) → IsPadded n x v → IsPadded n x w
 padded_same n x v w e h = record { size = h.size; same = λ p l. h.same p l ∙ e p l; small = h.small; rest = h.rest }
-
-pub none_has : (n : ℕ) (q : Matrix) (z : ℤ) (keys : List (List ℕ)) → keys ≡ [] → HasGenerators n q [] z keys
-none_has n q z keys e = record { each = λ x c. absurd (none x (subst (λ (w : List (List ℕ)). Contains w x) e c)); all = λ j k c. absurd (nobody j c) }
-  where
-    none : (x : List ℕ) → Contains [] x → ⊥
-    none x (k, l, e) = omega arith
-
-    nobody : (j : Judged) → Contains [] j → ⊥
-    nobody j (k, l, e) = omega arith
 
 module _ (n : ℕ) (q : Matrix) (judged : List Judged) (j : Judged) (z : ℤ) (keys new : List (List ℕ)) (h : HasGenerators n q judged z keys) where
   pub has_more : (c : ShownCone) → IsConeAt n q j.path c → AddsAttaining c n z keys new → HasGenerators n q (judged ++ j ∷ []) z new
@@ -239,9 +227,6 @@ pub record IsListing (n : ℕ) (keys list rest : List (List ℕ)) : Type 0 where
   pub list_is : list ≡ map (take n) front
   pub are_vectors : IsVectorList list
   pub below : (k : ℕ) → k + 1 ≡ length front → All (λ y. key_order (slice_index_or front k []) y ≡ Less) rest
-
-pub listing_start : (n : ℕ) (keys : List (List ℕ)) → IsListing n keys [] keys
-listing_start n keys = record { front = []; split = refl; list_is = refl; are_vectors = record { one_length = λ k l lk ll. absurd (omega arith); increasing = tt }; below = λ k e. absurd (omega arith) }
 
 module _ (n : ℕ) (keys list rest rest' : List (List ℕ)) (x : List ℕ) (few : n ≤ 8) (are : AreKeys n keys) (h : IsListing n keys list rest) (e : rest ≡ x ∷ rest') where
   split_here : keys ≡ h.front ++ x ∷ rest'
@@ -317,7 +302,7 @@ module _ (n : ℕ) (q : Matrix) (judged : List Judged) (z : ℤ) (keys vectors :
       all j k x c e l vec val =
           let r = h.all j k c e l val in
           let t : IsVector n (take n r.0) (cone_at n q j.path k) = as_vector r.0 (cone_at n q j.path k) r.2 in
-          let same : take n r.0 ≡ x = vector_unique n (take n r.0) x t.size vec.size (λ p lp. t.same p lp ∙ sym (vec.same p lp)) in
+          let same : take n r.0 ≡ x = vector_decided n (take n r.0) x t.size vec.size (λ p lp. t.same p lp ∙ sym (vec.same p lp)) in
           subst (λ (w : List (List ℕ)). Contains w x) (sym v.same) (subst (Contains (map (take n) keys)) same (Contains-map (take n) keys r.0 r.1))
 
 pub if_ok : {T E : Type 0} (r : Result T E) (P Q : T → Type 0) → ((x : T) → P x → Q x) → IfOk r P → IfOk r Q

@@ -1,5 +1,5 @@
 -- The code and the fate of a cone that is shown are those of its path.
-use Rattle.std.specs.Prelude.{◌≡◌, ◌≢◌, ℕ, zero, suc, ◌<◌, ◌≤◌, ◌+◌, ◌-◌, ◌^◌, min, ℤ, pos, ◌+ℤ◌, ◌≤ℤ◌, nat_abs, cond, eqb, ◌⊎◌, true, false, Option, Some, None, ◌++◌, ◌∷◌, [], length}
+use Rattle.std.specs.Prelude.{◌≡◌, ◌≢◌, ℕ, zero, suc, ◌<◌, ◌≤◌, ◌+◌, ◌-◌, ◌^◌, min, ℤ, pos, ◌≤ℤ◌, nat_abs, cond, eqb, ◌⊎◌, true, false, Option, Some, None, ◌++◌, ◌∷◌, [], length}
 use Rattle.std.proofs.Common.{arith, sym, ◌∙◌, ap, ap₂, refl, inl, inr, subst}
 use Rattle.commutative_ring.proofs.Expand.{linear}
 use Rattle.exact_forms.specs.Sums.{sum_to}
@@ -22,7 +22,7 @@ use Rattle.unimodular_cone.proofs.Unique.{both_le}
 use Rattle.unimodular_cone.proofs.Minimum.{not_low_Sign, not_low_Least}
 use Rattle.search_core.specs.Fair.{Fate, Closed, Split, Low, Dropped, AtLimit, Wide, least_upto, least_value, code, code_of, bound_under, IsUndecided, IsSplitAt, IsFate}
 use Rattle.search_core.specs.Scans.{SplitsShown}
-use Rattle.unimodular_cone.proofs.ShownAt.{no_pair_at}
+use Rattle.unimodular_cone.proofs.ShownAt.{no_pair_at, child_same, child_gram_same}
 use Rattle.search_core.specs.Judging.{shown_least, shown_code, IsLowShown, IsFirstLowShown, IsUndecidedShown, IsShownFate}
 use Rattle.search_core.proofs.LeastValues.{least_upto_le, least_upto_attained, code_not_low, bound_within}
 
@@ -91,23 +91,10 @@ undecided_has_pair m c word some le u none = u.not_closed (closed_without_negati
         side (inr lt) = rw (shown_gram_mirror c i j) (none j i lt li)
 
 -- ---- children
-child_same : (v w : ℕ → ℕ → ℤ) (i j k p : ℕ) → v k p ≡ w k p → v i p ≡ w i p → v j p ≡ w j p → child v i j k p ≡ child w i j k p
-child_same v w i j k p hk hi hj = by (same_or_not k i)
-  where
-    by : ((k ≡ i) ⊎ (k ≢ i)) → child v i j k p ≡ child w i j k p
-    by (inl e) = ap (λ (f : ℕ → ℤ). f p) (replaced_here v i (λ p. v i p +ℤ v j p) k e) ∙ ap₂ (λ (a : ℤ) (b : ℤ). a +ℤ b) hi hj ∙ sym (ap (λ (f : ℕ → ℤ). f p) (replaced_here w i (λ p. w i p +ℤ w j p) k e))
-    by (inr ne) = ap (λ (f : ℕ → ℤ). f p) (replaced_other v i (λ p. v i p +ℤ v j p) k ne) ∙ hk ∙ sym (ap (λ (f : ℕ → ℤ). f p) (replaced_other w i (λ p. w i p +ℤ w j p) k ne))
-
-child_gram_same : (n : ℕ) (g h : Matrix) (i j k l : ℕ) → ((a b : ℕ) → a < n → b < n → g a b ≡ h a b) → i < n → j < n → k < n → l < n → child_gram g i j k l ≡ child_gram h i j k l
-child_gram_same n g h i j k l e li lj lk ll = child_same (λ b a. child g i j a b) (λ b a. child h i j a b) i j l k (row l ll) (row i li) (row j lj)
-  where
-    row : (p : ℕ) → p < n → child g i j k p ≡ child h i j k p
-    row p lp = child_same g h i j k p (e k p lk lp) (e i p li lp) (e j p lj lp)
-
 children_same : (n : ℕ) (q : Matrix) (v w : Generators) (g : Matrix) (i j : ℕ) → SameBelow n v w g (gram n q w) → i < n → j < n → SameBelow n (child v i j) (child w i j) (child_gram g i j) (gram n q (child w i j))
 children_same n q v w g i j s li lj = record {
-  generators = λ k p lk lp. child_same v w i j k p (s.generators k p lk lp) (s.generators i p li lp) (s.generators j p lj lp);
-  gram_is = λ k l lk ll. child_gram_same n g (gram n q w) i j k l s.gram_is li lj lk ll ∙ sym (gram-child n q w i j k l);
+  generators = λ k p lk lp. child_same n v w i j k p li lj lk lp s.generators;
+  gram_is = λ k l lk ll. child_gram_same n g (gram n q w) i j k l li lj lk ll s.gram_is ∙ sym (gram-child n q w i j k l);
 }
 
 -- ---- the fate of a cone at its own path

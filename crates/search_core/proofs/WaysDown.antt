@@ -13,6 +13,7 @@ use Rattle.unimodular_cone.specs.Shown.{ShownCone, IsConeAt, IsNext, IsFirstWide
 use Rattle.unimodular_cone.proofs.Orders.{take_is_above, above_is_take}
 use Rattle.unimodular_cone.proofs.Tree.{above_shorter}
 use Rattle.unimodular_cone.proofs.ShownAt.{child_at_path}
+use Rattle.unimodular_cone.proofs.Ways.{digit_back}
 use Rattle.search_core.specs.Scans.{IsUnclosedDown}
 
 -- ---- refusals that do not come
@@ -22,21 +23,10 @@ root_not_wide n q (Wide at) fits w = fits at.entry w.entry.over
 root_not_wide n q OutOfMemory fits w = w
 
 -- ---- the way down
-digit_back : (b : Bool) → nat_eq (digit_of b) 1 ≡ b
-digit_back false = refl
-digit_back true = refl
-
-pub digit_small : (b : Bool) → digit_of b < 2
-digit_small false = omega arith
-digit_small true = omega arith
-
 -- k digits down, and no cone above is closed
 pub record IsDownAt (n : ℕ) (q : Matrix) (b : ℤ) (path : Path) (k : ℕ) (c : ShownCone) : Type 0 where
   pub at_path : IsConeAt n q (take k path) c
   pub unclosed : (i : ℕ) → i < k → ¬ IsClosedAt n q (take i path) b
-
-pub down_at_root : (n : ℕ) (q : Matrix) (b : ℤ) (path : Path) (c : ShownCone) → IsConeAt n q [] c → IsDownAt n q b path 0 c
-down_at_root n q b path c h = record { at_path = h; unclosed = λ i l. absurd (omega arith) }
 
 -- the cone at one more digit of the path
 pub way_more : (n : ℕ) (q : Matrix) (path : Path) (k : ℕ) (c r : ShownCone) → k < length path → IsConeAt n q (take k path) c

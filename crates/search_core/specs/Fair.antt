@@ -1,14 +1,28 @@
 -- Judgements of cones, and fair lists of them.
+--
 --     Fate                       what is said of one cone; the last number of each but Low is the word that was used
 --     word_of path fate          that word; of a Low the length of its path
+--     least_upto n f             the least of f 0, .., f n
 --     least_value n q v          the least generator value
---     code m n q path            the path's depth if a generator is low, else 256 and the least value (Least)
+--     least_diagonal n q         the least diagonal entry
+--     code_of m depth z          the code of a cone of that depth whose least value is z
+--     code m n q path            the path's depth if a generator is low, else 256 (Sign), or 256 plus the least value (Least)
+--     start_of m z               the start word where the least diagonal entry is z
 --     start_word m n q           the word before any cone is judged
 --     bound_under m word         the bound that the word stands for
+--     IsClosedUnder              the cone at a path is closed at that bound
+--     IsUndecided                no low generator, not closed, and no low cone of this depth or a lesser one is known
+--     IsSplitAt n q path i j     the pair at the path is (i, j), counted from 1, and both children fit
 --     IsFate m n q d path word f f is the fate of the cone at path, with limit d, under the word
 --     IsJudgement                a judgement's least value, fate and word are right, with the final word
---     IsLowFate, IsEndFate       a generator is low; the cone is at the limit or a child does not fit
+--     IsSplit, IsLowFate         the fate is Split, or Low
+--     IsEndFate                  the cone is at the limit, or a child does not fit
+--     HasPath, HasNoPath         the path is judged, or it is not
+--     IsDue judged path          the path is the root, or a child of a judged Split
+--     IsOnceEach judged          no path is judged twice
+--     IsFinalWord                the least of the start word and the codes of the judged cones
 --     IsFair m n q d list final  one judgement for the root and for each child of a Split, and for no other path
+--     HasAllThatTells            a part of a list has the judgements that an answer looks at
 --     IsUntold m word j          no answer looks at j, where the final word is at most this
 --     IsKeptOrUntold             j is kept, or no answer looks at it
 --     IsFairPart                 the judgements of a fair list that an answer looks at, and maybe others of it

@@ -1,11 +1,23 @@
--- Runs of the machine of events.
+-- The machine of events: workers take paths that wait, offer their cones' codes to the shared word, and judge.
+--
 --     Hand                      a worker's hand: nothing, a cone, or an offered cone with the word that was noted
 --     State                     waiting paths, a hand for each worker, the word, the judgements
---     IsStep m n q d s event t  the event leads from s to t
+--     hand s k                  what worker k has in hand
+--     children_of path fate     the children of a Split, none of any other fate
+--     IsTake s k path t         worker k takes a path that waits, which leads from s to t
+--     IsOffer m n q s k t       worker k lowers the word to the code of the cone in hand, and notes the word
+--     IsJudge m n q d s k t     worker k judges the cone in hand under the noted word, and its children wait
+--     held h, in_hands hands    the path in one hand, and the paths in all
+--     paths judged              the judged paths
 --     standing s                the paths that wait, are in a hand or are judged
---     due judged                the root, and the children of judged Splits
+--     below_splits judged       the children of judged Splits
+--     due judged                the root, and those
+--     same_path p r             whether two paths are one
 --     times p paths             how often p stands there
---     IsKept m n q d s          what every event keeps
+--     IsCoded s path            the path's cone is judged, or offered in a hand
+--     IsKept m n q d s          what each of these three keeps
+--     AreEmpty hands            nothing is in hand
+--     IsStart, IsEnd            the root waits and nothing else is; nothing waits, and nothing is in hand
 use Rattle.std.specs.Prelude.{ℕ, ◌<◌, ◌≤◌, ◌+◌, ◌≡◌, ◌⊎◌, Bool, true, false, cond, List, [], ◌∷◌, ◌++◌, length, min, slice_index_or, slice_set}
 use Rattle.std.specs.List.{Contains}
 use Rattle.unimodular_cone.specs.Paths.{Path}
@@ -23,12 +35,6 @@ pub record State : Type 0 where
   pub hands : List Hand
   pub word : ℕ
   pub judged : List Judged
-
--- workers from 0
-pub data Event : Type 0 where
-  Take : ℕ → Path → Event
-  Offer : ℕ → Event
-  Judge : ℕ → Event
 
 abbrev pub hand : State → ℕ → Hand
 hand s k = slice_index_or s.hands k Empty
@@ -73,11 +79,6 @@ pub record IsJudge (m : Mode) (n : ℕ) (q : Matrix) (d : ℕ) (s : State) (k : 
   pub waiting : t.waiting ≡ children_of path fate ++ s.waiting
   pub word : t.word ≡ s.word
   pub judged : t.judged ≡ record { path = path; fate = fate; least = least_value n q (cone_at n q path) } ∷ s.judged
-
-abbrev pub IsStep : Mode → ℕ → Matrix → ℕ → State → Event → State → Type 0
-IsStep m n q d s (Take k path) t = IsTake s k path t
-IsStep m n q d s (Offer k) t = IsOffer m n q s k t
-IsStep m n q d s (Judge k) t = IsJudge m n q d s k t
 
 abbrev pub held : Hand → List Path
 held Empty = []
@@ -144,8 +145,3 @@ pub record IsStart (m : Mode) (n : ℕ) (q : Matrix) (s : State) : Type 0 where
 pub record IsEnd (s : State) : Type 0 where
   pub waiting : s.waiting ≡ []
   pub hands : AreEmpty s.hands
-
--- the events lead from s to t
-abbrev pub IsRun : Mode → ℕ → Matrix → ℕ → State → List Event → State → Type 0
-IsRun m n q d s [] t = s ≡ t
-IsRun m n q d s (e ∷ events) t = (u : State) × IsStep m n q d s e u × IsRun m n q d u events t

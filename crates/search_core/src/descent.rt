@@ -1,6 +1,6 @@
 //! Ways down from the root to a path of the tree.
 
-ghost use Rattle.std.specs.Prelude.{◌≡◌, ◌≤◌, ◌<◌, ◌-◌, [], ◌↔◌, ◌^◌, ◌≤ℤ◌, pos, IsTrue, length, nat_eq};
+ghost use Rattle.std.specs.Prelude.{◌≤◌, ◌<◌, ◌-◌, [], ◌↔◌, ◌^◌, ◌≤ℤ◌, pos, IsTrue, length, nat_eq};
 ghost use Rattle.symmetric_matrix.specs.Symmetric.{entry};
 ghost use Rattle.unimodular_cone.specs.Cones.{unit_vectors, Fits};
 ghost use Rattle.unimodular_cone.specs.Tree.{IsInTree};

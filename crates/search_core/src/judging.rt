@@ -3,7 +3,7 @@
 ghost use Rattle.std.specs.Prelude.{◌≡◌, ◌≤◌, ◌<◌, ◌-◌, ℕ, suc, min, length, Some, MatchOption, OnOk, OnErr};
 ghost use Rattle.unimodular_cone.specs.Answer.{IsLeastDiagonal};
 ghost use Rattle.unimodular_cone.specs.Shown.{shown_gram, IsWithinLimits};
-ghost use Rattle.search_core.specs.Judging.{shown_code, IsLowShown, IsFirstLowShown, IsClosedShown, IsUndecidedShown, IsShownFate, IsJudgementOf};
+ghost use Rattle.search_core.specs.Judging.{shown_code, IsLowShown, IsFirstLowShown, IsUndecidedShown, IsShownFate, IsJudgementOf};
 ghost use Rattle.std.specs.Bool.{MatchBool};
 ghost use Rattle.search_core.specs.Fair.{IsUntold, IsKeptOrUntold};
 
@@ -155,6 +155,7 @@ pub fn keep(judged: &mut Vec<Judged>, mode: Mode, j: Judged, word: u64) -> Resul
     ensures err { OnErr result (judged.new.items ≡ judged.old.items) }
 {
     if tells(mode, &j, word) {
+        // Field by field, since the prover makes no proof of a push of the whole.
         judged.push(Judged {
             path: j.path,
             fate: j.fate,

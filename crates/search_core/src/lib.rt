@@ -10,6 +10,8 @@ mod law;
 mod scan;
 mod searcher;
 mod settling;
+#[cfg(test)]
+mod tests;
 mod words;
 
 pub use answer::{Least, Sign};

@@ -1,6 +1,6 @@
 //! The first judgements by place.
 
-ghost use Rattle.std.specs.Prelude.{◌≡◌, ◌↔◌, IsTrue, pos};
+ghost use Rattle.std.specs.Prelude.{◌↔◌, IsTrue, pos};
 ghost use Rattle.std.specs.Bool.{MatchBool};
 ghost use Rattle.search_core.specs.Scans.{IsLowOf, IsOpenEnd, AreInTree, FindsFirst, IsBefore, IsBehind};
 ghost use Rattle.search_core.specs.Fair.{IsEndFate};

@@ -49,7 +49,7 @@ fn start_of_least(mode: Mode, least: i128) -> u64
     }
 }
 
-/// The word before any cone is judged: 256 (Sign), or 256 and the least diagonal entry, or 257 where that is at most 0
+/// The word before any cone is judged: 256 (Sign), or 256 plus the least diagonal entry, or 257 where that is at most 0
 /// (Least).
 pub fn start_word(mode: Mode, q: &SymInt) -> u64
     requires { IsNarrow mode q.now.size (entry q.now) }
@@ -72,8 +72,8 @@ pub(crate) fn code_at(mode: Mode, depth: u8, least: i128) -> u64
     }
 }
 
-/// The code of a cone: its depth if a generator is low; else 256 (Sign), or the lesser of 256 and the least value, and
-/// 2^64 - 1 (Least).
+/// The code of a cone: its depth if a generator is low; else 256 (Sign), or 256 plus the least value, at most 2^64 - 1
+/// (Least).
 pub fn code<C: ConeRead>(mode: Mode, c: &C) -> u64
     ensures { result ≡ shown_code mode (C.cone c.now) }
 {

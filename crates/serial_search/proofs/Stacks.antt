@@ -12,11 +12,11 @@ use Rattle.unimodular_cone.specs.Paths.{Path}
 use Rattle.unimodular_cone.specs.Cones.{Matrix}
 use Rattle.unimodular_cone.specs.Shown.{ShownCone, IsChild, IsConeAt}
 use Rattle.unimodular_cone.proofs.ShownAt.{child_at_path}
-use Rattle.unimodular_cone.proofs.Unique.{contains_cons, contains_here, contains_there}
+use Rattle.exact_forms.proofs.Vectors.{contains_cons, contains_here, contains_there}
 use Rattle.search_core.specs.declared.Fate.{Fate}
 use Rattle.search_core.specs.declared.Fate.TheVariants.{Closed, Split, Low, Dropped, AtLimit, Wide}
 use Rattle.search_core.specs.declared.Judged.{Judged}
-use Rattle.search_core.specs.Fair.{code, start_word, bound_under, IsLowFate, IsEndFate, IsFate, IsUntold, IsKeptOrUntold, IsFairPart}
+use Rattle.search_core.specs.Fair.{code, start_word, bound_under, IsLowFate, IsEndFate, IsFate, IsUntold, IsKeptOrUntold, IsFair, IsFairPart}
 use Rattle.search_core.specs.Judging.{shown_code, IsShownFate, IsJudgementOf}
 use Rattle.search_core.specs.Machine.{IsKept}
 use Rattle.search_core.proofs.ShownFates.{shown_code_at, shown_least_at, fate_at}
@@ -261,6 +261,33 @@ module _ (m : Mode) (n : ℕ) (q : Matrix) (d : ℕ) (stack front new : List Sho
       by (Dropped w) g s = gone s
       by (AtLimit w) g s = gone s
       by (Wide w a) g s = gone s
+
+-- ---- a search that keeps every judgement, the last one first
+pub record IsSearchedPlainly (m : Mode) (n : ℕ) (q : Matrix) (d : ℕ) (stack : List ShownCone) (word : ℕ) (judged : List Judged) : Type 0 where
+  pub kept : List Judged
+  pub search : IsSearching m n q d stack word kept
+  pub all : search.all ≡ judged
+
+pub plain_starts : (m : Mode) (n : ℕ) (q : Matrix) (d : ℕ) (root : ShownCone) → IsConeAt n q [] root → IsSearchedPlainly m n q d (root ∷ []) (start_word m n q) []
+unfolding search_starts
+plain_starts m n q d root at = record { kept = []; search = search_starts m n q d root at; all = refl }
+
+pub plain_ends : (m : Mode) (n : ℕ) (q : Matrix) (d : ℕ) (stack : List ShownCone) (word : ℕ) (judged : List Judged) → stack ≡ [] → IsSearchedPlainly m n q d stack word judged → IsFair m n q d judged word
+unfolding search_ends
+plain_ends m n q d stack word judged e h = subst (λ (all : List Judged). IsFair m n q d all word) h.all (search_ends m n q d stack word h.kept e h.search).fair
+
+module _ (m : Mode) (n : ℕ) (q : Matrix) (d : ℕ) (stack front new : List ShownCone) (cone : ShownCone) (word : ℕ) (judged : List Judged) (j : Judged) (some : 1 ≤ n) (h : IsSearchedPlainly m n q d stack word judged)
+    (popped : IsOnTop cone front stack) (is : IsJudgementOf m cone d (min word (shown_code m cone)) j) (stacks : AreStacked cone j.fate front new) where
+  pub plain_turns : IsSearchedPlainly m n q d new (min word (shown_code m cone)) (j ∷ judged)
+  unfolding search_turns
+  plain_turns = record {
+    kept = h.kept ++ j ∷ [];
+    search = search_turns m n q d stack front new cone word h.kept (h.kept ++ j ∷ []) j some h.search popped is stacks (inl refl);
+    all = ap (λ (all : List Judged). j ∷ all) h.all;
+  }
+
+  pub plain_falls : cones_left d new < cones_left d stack
+  plain_falls = fewer_left m n q d stack front new cone word h.kept (h.kept ++ j ∷ []) j some h.search popped is stacks (inl refl)
 
 pub no_items : (stack : List ShownCone) → length stack ≡ 0 → stack ≡ []
 no_items [] e = refl

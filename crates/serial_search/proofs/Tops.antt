@@ -1,8 +1,8 @@
 -- The cone on top of a stack, and what stands there after a split.
 use Rattle.std.specs.Prelude.{◌≡◌, ℕ, ◌<◌, ◌+◌, ◌-◌, List, [], ◌∷◌, ◌++◌, length, take, slice_index_or, slice_set}
-use Rattle.std.proofs.Common.{arith, sym, ◌∙◌, ap, ap₂, refl, subst, length-append}
+use Rattle.std.proofs.Common.{arith, sym, ◌∙◌, ap, ap₂, subst, length-append}
 use Rattle.std.proofs.Math.Seq.{get_or-append_seam, set-append_seam}
-use Rattle.std.proofs.lemmas.List.{take_all, take_more, get_or-append-add, set-append_right, append_assoc}
+use Rattle.std.proofs.lemmas.List.{take_all, take_more, append_assoc}
 use Rattle.unimodular_cone.specs.Shown.{ShownCone}
 use Rattle.serial_search.specs.Turns.{IsOnTop}
 
@@ -26,28 +26,8 @@ pub top_read : (stack rest : List ShownCone) (c d : ShownCone) (at : ℕ) → Is
 top_read stack rest c d at top here is =
     is ∙ ap₂ (λ (s : List ShownCone) (k : ℕ). slice_index_or s k d) top (top_at stack rest c at top here) ∙ get_or-append_seam rest c [] d
 
--- ---- a copy of the top is put above it, and then both are changed
-module _ (stack pushed rest : List ShownCone) (c copied : ShownCone) (at : ℕ) (top : IsOnTop c rest stack) (here : at + 1 ≡ length stack) (push : pushed ≡ stack ++ copied ∷ []) where
-  at_is : at ≡ length rest
-  at_is = top_at stack rest c at top here
-
-  pushed_is : pushed ≡ rest ++ c ∷ copied ∷ []
-  pushed_is = push ∙ ap (λ (s : List ShownCone). s ++ copied ∷ []) top ∙ append_assoc rest (c ∷ []) (copied ∷ [])
-
-  below_set : (s : ShownCone) → slice_set pushed at s ≡ rest ++ s ∷ copied ∷ []
-  below_set s = ap₂ (λ (x : List ShownCone) (k : ℕ). slice_set x k s) pushed_is at_is ∙ set-append_seam rest c (copied ∷ []) s
-
-  pub below_read : (d : ShownCone) → d ≡ slice_index_or pushed at d → d ≡ c
-  below_read d is = is ∙ ap₂ (λ (s : List ShownCone) (k : ℕ). slice_index_or s k d) pushed_is at_is ∙ get_or-append_seam rest c (copied ∷ []) d
-
-  pub above_read : (s d : ShownCone) → d ≡ slice_index_or (slice_set pushed at s) (at + 1) d → d ≡ copied
-  above_read s d is = is ∙ ap₂ (λ (x : List ShownCone) (k : ℕ). slice_index_or x (k + 1) d) (below_set s) at_is ∙ get_or-append-add rest (s ∷ copied ∷ []) 1 d
-
-  pub both_set : (s f : ShownCone) → slice_set (slice_set pushed at s) (at + 1) f ≡ rest ++ s ∷ f ∷ []
-  both_set s f =
-      ap₂ (λ (x : List ShownCone) (k : ℕ). slice_set x (k + 1) f) (below_set s) at_is
-      ∙ set-append_right rest (s ∷ copied ∷ []) (length rest) (length rest + 1) f refl (omega arith)
-      ∙ ap (λ (k : ℕ). rest ++ slice_set (s ∷ copied ∷ []) k f) (one (length rest))
-    where
-      one : (k : ℕ) → k + 1 - k ≡ 1
-      one k = omega arith
+-- the cone on top is changed, and another is put above
+pub split_top : (stack rest : List ShownCone) (c below above : ShownCone) (at : ℕ) → IsOnTop c rest stack → at + 1 ≡ length stack → slice_set stack at below ++ above ∷ [] ≡ rest ++ below ∷ above ∷ []
+split_top stack rest c below above at top here =
+    ap (λ (s : List ShownCone). s ++ above ∷ []) (ap₂ (λ (s : List ShownCone) (k : ℕ). slice_set s k below) top (top_at stack rest c at top here) ∙ set-append_seam rest c [] below)
+    ∙ append_assoc rest (below ∷ []) (above ∷ [])

@@ -1,6 +1,8 @@
 //! The search on one thread.
 #![tactic(auto)]
 
+#[cfg(test)]
+mod plain;
 mod search;
 mod searcher;
 #[cfg(test)]

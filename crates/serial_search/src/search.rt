@@ -1,11 +1,10 @@
 //! A search depth first: the cone on top of a stack is judged where it stands. A split one becomes its child 1, with its
 //! child 0 above, and any other is taken away.
 
-ghost use Rattle.std.specs.Prelude.{◌≡◌, ◌≤◌, ◌<◌, [], IfOk, OnOk, length, vec_len};
+ghost use Rattle.std.specs.Prelude.{◌≤◌, ◌<◌, [], IfOk, OnOk, vec_len};
 ghost use Rattle.symmetric_matrix.specs.Symmetric.{entry};
-ghost use Rattle.unimodular_cone.specs.Cones.{unit_vectors, Fits};
 ghost use Rattle.unimodular_cone.specs.Answer.{IsNarrow};
-ghost use Rattle.unimodular_cone.specs.Shown.{IsConeAt, IsWithinLimits};
+ghost use Rattle.unimodular_cone.specs.Shown.{IsConeAt};
 ghost use Rattle.search_core.specs.Fair.{IsFairPart};
 ghost use Rattle.serial_search.specs.Turns.{CanSplitTop, IsTopSplit, TopSplits, IsTopTurned};
 
@@ -17,7 +16,9 @@ use unimodular_cone::{Cone, Mode};
 /// What was judged, of all that tells, and the final word.
 #[derive(Drop)]
 pub struct Judgements {
+    /// The judgements.
     pub judged: Vec<Judged>,
+    /// The word after all of them.
     pub final_word: u64,
 }
 
@@ -30,15 +31,13 @@ fn split(stack: &mut Vec<Cone>, i: u8, j: u8) -> Result<(), AllocError>
 {
     stack.reserve(1)?;
     let top = stack.len() - 1;
-    let above = stack[top].copy();
+    let above = stack[top].split(i, j);
     stack.push_reserved(above);
-    stack[top].step(i, j, 1);
-    stack[top + 1].step(i, j, 0);
     Ok(())
 }
 
 /// Puts the children of a split cone in its place on top of the stack, child 0 last. A cone of any other fate is taken away.
-fn turn(stack: &mut Vec<Cone>, fate: &Fate) -> Result<(), AllocError>
+pub(crate) fn turn(stack: &mut Vec<Cone>, fate: &Fate) -> Result<(), AllocError>
     requires some { 0 < vec_len stack.old }
     requires splits { TopSplits fate.now stack.old.items }
     ensures { OnOk result (IsTopTurned fate.now stack.old.items stack.new.items) }
@@ -46,6 +45,7 @@ fn turn(stack: &mut Vec<Cone>, fate: &Fate) -> Result<(), AllocError>
     if let Fate::Split { i, j, .. } = *fate {
         return split(stack, i, j);
     }
+    // `pop` would move the cone out of the stack, with all its numbers.
     stack.truncate(stack.len() - 1);
     Ok(())
 }

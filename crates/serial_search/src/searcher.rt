@@ -39,7 +39,7 @@ impl Searcher for SerialSearcher {
 }
 
 /// The least diagonal entry, where it is over 2^63 - 1.
-fn bound_wide(q: &SymInt) -> Option<i128>
+pub(crate) fn bound_wide(q: &SymInt) -> Option<i128>
     ensures { MatchOption result (IsNarrow Mode.Least q.now.size (entry q.now)) (λ z. IsLeastDiagonal q.now.size (entry q.now) z × (pos (2 ^ 63 - 1) <ℤ z)) }
 {
     let least = least_diagonal(q);

@@ -3,6 +3,7 @@
 ghost use Rattle.std.specs.Prelude.{◌≡◌, ◌≤◌, ◌^◌, nat_abs};
 
 use crate::SerialSearcher;
+use crate::plain::{plain_least, plain_sign};
 use search_core::{Least, Searcher, Sign};
 use std::alloc::Global;
 use std::process::Abort;
@@ -182,6 +183,25 @@ fn entries_over_their_limits(rt: HostRuntime) -> Result<(), Fail> {
     match searcher.least(&two(alloc, OVER, 1, OVER)?, 60) {
         Least::BoundWide { diagonal } => assert_eq!(rt; diagonal, OVER),
         _ => assert!(rt; false),
+    }
+    Ok(())
+}
+
+#[test]
+fn every_judgement_settles_to_the_same(rt: HostRuntime) -> Result<(), Fail> {
+    let alloc = rt.alloc();
+    let deep = three(alloc, 10, -6, 4, -7, 5, 20)?;
+    match plain_least(alloc, &deep, 3) {
+        Some(answer) => assert_found(&rt, &answer, 2, &[1, 1, 0, 1, 2, 0]),
+        None => assert!(&rt; false),
+    }
+    match plain_sign(alloc, &two(alloc, 0, 1, 0)?, 60) {
+        Some(Sign::Copositive) => {}
+        _ => assert!(&rt; false),
+    }
+    match plain_sign(alloc, &two(alloc, 2, -1, 0)?, 60) {
+        Some(answer) => assert_sign_low(&rt, &answer, -2, &[0, 0], &[1, 2]),
+        None => assert!(&rt; false),
     }
     Ok(())
 }

@@ -26,19 +26,6 @@ framed_beyond none n q i j h = ap (λ (b : Bool). if b then q (i - 1) (j - 1) el
     fails : (j : ℕ) → n < j → (nat_lt 0 i && nat_le i n && (nat_lt 0 j && nat_le j n)) ≡ false
     fails j h = grind arith
 
--- each entry is of the matrix, or none
-pub framed_cases : {A : Type 0} (none : A) (n : ℕ) (q : ℕ → ℕ → A) (P : A → Type 0) (i j : ℕ)
-    → ((0 < i) → (i ≤ n) → (0 < j) → (j ≤ n) → P (q (i - 1) (j - 1))) → P none → P (framed none n q i j)
-unfolding framed
-framed_cases none n q P i j inside outside = by (nat_lt 0 i && nat_le i n && (nat_lt 0 j && nat_le j n)) refl
-  where
-    bounds : (nat_lt 0 i && nat_le i n && (nat_lt 0 j && nat_le j n)) ≡ true → (0 < i) × (i ≤ n) × (0 < j) × (j ≤ n)
-    bounds h = grind arith
-
-    by : (b : Bool) → (nat_lt 0 i && nat_le i n && (nat_lt 0 j && nat_le j n)) ≡ b → P (if b then q (i - 1) (j - 1) else none)
-    by true h = let k = bounds h in inside k.0 k.1 k.2 k.3
-    by false h = outside
-
 pub framed_same : {A : Type 0} (none : A) (n : ℕ) (p q : ℕ → ℕ → A) → ((i j : ℕ) → i < n → j < n → p i j ≡ q i j) → (i j : ℕ) → framed none n p i j ≡ framed none n q i j
 unfolding framed
 framed_same none n p q h i j = by (nat_lt 0 i && nat_le i n && (nat_lt 0 j && nat_le j n)) refl

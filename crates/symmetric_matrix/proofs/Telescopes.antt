@@ -68,11 +68,6 @@ module _ {A : Type 0} (R : CommutativeRing A) where
   unfoldable pub weight_in : ℕ → (ℕ → ℕ → A) → Run → A
   weight_in n a r = R.add (minus (minus (edged n a (r.first + 1) (r.last + 1)) (edged n a r.first (r.last + 1))) (edged n a (r.first + 1) (r.last + 2))) (edged n a r.first (r.last + 2))
 
-  pub weight_in_is : (n : ℕ) (a : ℕ → ℕ → A) (r : Run) → weight_in n a r
-      ≡ R.add (minus (minus (edged n a (r.first + 1) (r.last + 1)) (edged n a r.first (r.last + 1))) (edged n a (r.first + 1) (r.last + 2))) (edged n a r.first (r.last + 2))
-  unfolding weight_in
-  weight_in_is n a r = refl
-
   -- the entry at (i,l) of the matrix of a run's vector
   abbrev pub mark_of : ℕ → ℕ → Run → A
   mark_of i l r = R.of_int (pos (run_digit r i) *ℤ pos (run_digit r l))

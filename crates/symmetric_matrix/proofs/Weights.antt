@@ -3,7 +3,7 @@ use Rattle.std.specs.Prelude.{◌≡◌, ◌≢◌, ℕ, ◌+◌, ◌*◌, ◌<�
 use Rattle.std.proofs.Common.{arith, sym, ◌∙◌, ap, ap₂, refl, inl, inr}
 use Rattle.std.proofs.lemmas.List.{get_or-map, length-map}
 use Rattle.std.proofs.lemmas.List.Elements.{All-contains, Contains-get_or}
-use Rattle.commutative_ring.proofs.Ring.{CommutativeRing, int_ring, ring_in, ring, num, ◌⊕◌, ◌⊗◌, ◌⊖◌, v0, v1, v2, v3, v4}
+use Rattle.commutative_ring.proofs.Ring.{CommutativeRing, ring_in, ring, num, ◌⊕◌, ◌⊗◌, ◌⊖◌, v0, v1, v2, v3, v4}
 use Rattle.commutative_ring.proofs.Laws.{neg_is_mul, zero_mul_ℤ}
 use Rattle.commutative_ring.proofs.SumOf.{total, total_same, total_none, total_one, total-add, total-neg}
 use Rattle.exact_forms.specs.Rational.{Rational, ratio, whole, ◌+ℚ◌, ◌*ℚ◌, neg_ℚ}
@@ -38,10 +38,6 @@ runs_apart n k l hk hl ne first last =
     ∙ sym (get_or-map (run_vector n) (late_runs n n) l no_run [] hl)))
 
 -- ---- whole weights
-pub weight_is_in_ring : (n : ℕ) (q : ℕ → ℕ → ℤ) (r : Run) → start_weight n q r ≡ weight_in int_ring n q r
-unfolding start_weight weight_in
-weight_is_in_ring n q r = refl
-
 -- the weights of the matrix of one run's vector
 product_weight : (n : ℕ) (s r : Run) → IsRunWithin n s → start_weight n (λ i j. pos (run_digit s i) *ℤ pos (run_digit s j)) r
     ≡ (pos (edge s (r.first + 1)) +ℤ neg_ℤ (pos (edge s r.first))) *ℤ (pos (edge s (r.last + 1)) +ℤ neg_ℤ (pos (edge s (r.last + 2))))

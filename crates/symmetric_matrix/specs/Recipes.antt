@@ -1,13 +1,16 @@
 -- The operations of the sums over a symmetric matrix, in the order of its lower triangle.
 --
 --     Place                  a row and a column, counted from 0
+--     row_places i           the places of row i up to the diagonal
 --     triangle_places n      the places of the lower triangle of n rows, row by row
 --     multiplicity p         how often the entry at a place of the lower triangle stands in the matrix: once on the diagonal, else twice
 --     Product                two factors, and the operations by which the right one is made
 --     product_ops s p        the operations that add the product p to the sum s
 --     sum_ops products s     those that add each of the products in turn, from the sum s on
---     form_ops q x           those of Q[x]: to a sum from 0, each Q_ij times m·x_i·x_j, where m is the multiplicity
---     inner_ops q s          those of ⟨Q,S⟩: each Q_ij times m·S_ij, which is made first
+--     form_product q x p     Q_ij times m·x_i·x_j, where (i, j) is the place p and m its multiplicity
+--     form_ops q x           the operations of Q[x]: each of these is added to a sum from 0
+--     inner_product q s p    Q_ij times m·S_ij, which is made first
+--     inner_ops q s          the operations of ⟨Q,S⟩: each of these is added to a sum from 0
 use Rattle.std.specs.Prelude.{ℕ, ◌+◌, ◌*◌, nat_eq, if◌then◌else◌, ℤ, pos, ◌+ℤ◌, ◌*ℤ◌, List, [], ◌∷◌, ◌++◌, map, slice_index_or}
 use Rattle.std.specs.List.{range_with_len, flat_map}
 use Rattle.symmetric_matrix.specs.declared.operation.IntOp.{IntOp}

@@ -7,6 +7,7 @@
 --     late_runs n m              the runs within n places that begin at one of the last m, a later beginning first
 --     start_runs n               all runs within n places, in that order
 --     start_list n               their vectors
+--     IsRunWithin n r            its places are below n, and there is one
 --     IsStartVector n x          x has n places, and ones at the places of one run within them
 --     ListsStartVectors n list   the list has each of these once, in increasing lexicographic order, and nothing else
 use Rattle.std.specs.Prelude.{◌≡◌, ℕ, ◌+◌, ◌-◌, ◌<◌, ◌≤◌, ◌&&◌, nat_le, if◌then◌else◌, List, map}

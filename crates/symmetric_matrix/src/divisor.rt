@@ -1,6 +1,6 @@
 //! Greatest common divisors.
 
-ghost use Rattle.std.specs.Prelude.{◌≡◌, ℕ, ◌<◌, ◌≤◌, ◌^◌, ◌%◌, pos, nat_abs, length, slice_index_or};
+ghost use Rattle.std.specs.Prelude.{◌≡◌, ℕ, ◌<◌, ◌^◌, ◌%◌, pos, nat_abs, length, slice_index_or};
 ghost use Rattle.std.specs.Int.{IsGcd};
 ghost use Rattle.commutative_ring.specs.Gcd.{gcd_of};
 ghost use Rattle.symmetric_matrix.specs.Divisors.{divisor_from};

@@ -1,12 +1,12 @@
 //! Sums of products over a lower triangle: the value of a form, and inner products.
 
-ghost use Rattle.std.specs.Prelude.{◌≡◌, ℕ, ◌+◌, ◌*◌, ◌^◌, ◌<◌, ◌≤◌, [], ◌∷◌, pos, ◌+ℤ◌, ◌*ℤ◌, length, slice_index, slice_index_or};
+ghost use Rattle.std.specs.Prelude.{◌≡◌, ◌*◌, ◌<◌, [], ◌∷◌, pos, ◌+ℤ◌, ◌*ℤ◌, length, slice_index};
 ghost use Rattle.exact_forms.specs.Forms.{form, inner};
 ghost use Rattle.exact_forms.specs.Vectors.{coordinate};
 ghost use Rattle.symmetric_matrix.specs.Lists.{IsVector};
 ghost use Rattle.symmetric_matrix.specs.Owed.{answer};
 ghost use Rattle.symmetric_matrix.specs.Operations.{is_owed, mul_op, add_op};
-ghost use Rattle.symmetric_matrix.specs.Recipes.{Place, multiplicity, Product, product_ops, form_ops, inner_ops};
+ghost use Rattle.symmetric_matrix.specs.Recipes.{multiplicity, form_ops, inner_ops};
 ghost use Rattle.symmetric_matrix.specs.Symmetric.{Symmetric, IsLower, entry};
 
 use crate::operation::{IntOp, int_add, int_mul};

@@ -1,8 +1,8 @@
 //! The vectors that a search begins with.
 
-ghost use Rattle.std.specs.Prelude.{◌≡◌, ◌+◌, ◌-◌, ◌<◌, ◌≤◌, ◌++◌, length, map, IfOk, OnOk};
+ghost use Rattle.std.specs.Prelude.{◌≡◌, ◌+◌, ◌<◌, ◌≤◌, length, map, IfOk, OnOk};
 ghost use Rattle.exact_forms.specs.Triangles.{triangle};
-ghost use Rattle.symmetric_matrix.specs.StartVectors.{run_vector, runs_from, late_runs, start_list, ListsStartVectors};
+ghost use Rattle.symmetric_matrix.specs.StartVectors.{run_vector, late_runs, start_list, ListsStartVectors};
 ghost use Rattle.symmetric_matrix.specs.StartWeights.{StartWeightsWrite, StartMatricesAreFree};
 
 use crate::{IntVector, VectorList};

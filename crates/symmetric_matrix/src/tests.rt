@@ -1,6 +1,6 @@
 //! Worked values, found by hand.
 
-ghost use Rattle.std.specs.Prelude.{◌≡◌, length, IfOk};
+ghost use Rattle.std.specs.Prelude.{◌≡◌, IfOk};
 
 use crate::{IntKind, IntOp, IntVector, SymInt, VectorList, gcd, int_add, int_mul, start_vectors};
 use std::alloc::{AllocError, Global};

@@ -6,7 +6,9 @@ use Rattle.unimodular_cone.specs.Paths.{Path}
 use Rattle.unimodular_cone.specs.Cones.{Matrix, value, cone_at, unit_vectors, Fits, WideEntry, IsFirstOver}
 use Rattle.unimodular_cone.specs.Tree.{Mode, Sign, Least, IsInTree, IsFirstLowAt, IsFirstLow, IsFinalBound, IsLeastInTree, IsOpen, IsFirstOpen, IsFirstOverBelow}
 use Rattle.unimodular_cone.specs.Answer.{ListsAttaining, SearchAnswer, BoundWide, Wide, Low, Depth, Copositive, Found, IsLeastDiagonal, IsNarrow, IsClear, IsOpenAnswer, IsLowAnswer, IsClosedAnswer, IsSearchAnswer}
-use Rattle.unimodular_cone.proofs.Unique.{no_later_both, no_deeper_both, both_le, first_low_at_unique, first_over_unique, first_over_below_unique, vector_unique, lists_unique}
+use Rattle.exact_forms.proofs.Copositive.{lists_unique}
+use Rattle.exact_forms.proofs.Vectors.{vector_decided}
+use Rattle.unimodular_cone.proofs.Unique.{no_later_both, no_deeper_both, both_le, first_low_at_unique, first_over_unique, first_over_below_unique}
 
 pub least_in_tree_unique : (n : ℕ) (q : Matrix) (d : ℕ) (b c : ℤ) → IsLeastInTree n q d b → IsLeastInTree n q d c → b ≡ c
 least_in_tree_unique n q d b c x y = both_le b c (at_most c x y.attained) (at_most b y x.attained)
@@ -66,7 +68,7 @@ wide_not_narrow Sign n q z e h lt narrow = (cc)
 wide_not_narrow Least n q z e h lt (k, l, le) = let g : z ≤ℤ q k k = h.least k l in omega (arith, ints)
 
 low_vector : (m : Mode) (n : ℕ) (q : Matrix) (d : ℕ) (x y : List ℕ) (z w : ℤ) (p r : Path) → IsLowAnswer m n q d x z p → IsLowAnswer m n q d y w r → p ≡ r → (x ≡ y) × (z ≡ w)
-low_vector m n q d x y z w p r a b e = (vector_unique n x y a.vector.size b.vector.size (λ i l. a.vector.same i l ∙ same_place i ∙ sym (b.vector.same i l)), sym a.value ∙ same_value ∙ b.value)
+low_vector m n q d x y z w p r a b e = (vector_decided n x y a.vector.size b.vector.size (λ i l. a.vector.same i l ∙ same_place i ∙ sym (b.vector.same i l)), sym a.value ∙ same_value ∙ b.value)
   where
     which : a.which ≡ b.which
     which = first_low_at_unique m n q (cone_at n q r) a.which b.which (subst (λ (s : Path). IsFirstLowAt m n q (cone_at n q s) a.which) e a.is_which) b.is_which

@@ -8,19 +8,13 @@ use Rattle.unimodular_cone.specs.declared.pair_rule.Best.{Best}
 use Rattle.unimodular_cone.specs.BestPair.{best_pair, IsBestOf, better_best}
 use Rattle.unimodular_cone.specs.Cones.{Matrix, better, best_in_row, best_in_rows, pair_of, IsPair}
 use Rattle.unimodular_cone.specs.Shown.{ShownCone, shown_gram}
-use Rattle.unimodular_cone.proofs.Pairs.{pair_of_some, pair_of_none}
+use Rattle.unimodular_cone.proofs.Pairs.{test_true, test_false, pair_of_some, pair_of_none}
 
 less_true : (x y : ℤ) → x <ℤ y → int_lt x y ≡ true
 less_true x y h = grind (arith, ints)
 
 less_false : (x y : ℤ) → y ≤ℤ x → int_lt x y ≡ false
 less_false x y h = grind (arith, ints)
-
-less_is : (x y : ℤ) → int_lt x y ≡ true → x <ℤ y
-less_is x y h = grind (arith, ints)
-
-less_is_not : (x y : ℤ) → int_lt x y ≡ false → y ≤ℤ x
-less_is_not x y h = grind (arith, ints)
 
 below_trans : (x y z : ℤ) → x <ℤ y → y ≤ℤ z → x <ℤ z
 below_trans x y z h k = omega (arith, ints)
@@ -33,7 +27,7 @@ pub better_is_best : (g : Matrix) (b : Best) (z : ℤ) (i j : ℕ) → z ≡ g i
 better_is_best g b z i j e h = by (int_lt z b.value) refl
   where
     by : (t : Bool) → int_lt z b.value ≡ t → IsBestOf g (cond t (record { value = z; row = i; column = j }) b)
-    by true f = record { at_most = le_of_lt z (pos 0) (below_trans z b.value (pos 0) (less_is z b.value f) h.at_most); entry = λ k. e }
+    by true f = record { at_most = le_of_lt z (pos 0) (below_trans z b.value (pos 0) (test_true z b.value f) h.at_most); entry = λ k. e }
     by false f = h
 
 pub better_pair : (g : Matrix) (b : Best) (z : ℤ) (i j : ℕ) → z ≡ g i j → IsBestOf g b → best_pair (better_best b z i j) ≡ better g (best_pair b) i j
@@ -41,20 +35,20 @@ better_pair g b z i j e h = by (int_lt b.value (pos 0)) refl
   where
     -- the best so far is none
     without : b.value ≡ pos 0 → (t : Bool) → int_lt z b.value ≡ t → best_pair (cond t (record { value = z; row = i; column = j }) b) ≡ cond t (Some (i, j)) None
-    without none true f = ap (λ (w : Bool). cond w (Some (i, j)) None) (less_true z (pos 0) (subst (λ (w : ℤ). z <ℤ w) none (less_is z b.value f)))
+    without none true f = ap (λ (w : Bool). cond w (Some (i, j)) None) (less_true z (pos 0) (subst (λ (w : ℤ). z <ℤ w) none (test_true z b.value f)))
     without none false f = ap (λ (w : ℤ). cond (int_lt w (pos 0)) (Some (b.row, b.column)) None) none
 
     with_one : b.value <ℤ pos 0 → (t : Bool) → int_lt z b.value ≡ t → best_pair (cond t (record { value = z; row = i; column = j }) b) ≡ cond t (Some (i, j)) (Some (b.row, b.column))
-    with_one negative true f = ap (λ (w : Bool). cond w (Some (i, j)) None) (less_true z (pos 0) (below_trans z b.value (pos 0) (less_is z b.value f) (le_of_lt b.value (pos 0) negative)))
+    with_one negative true f = ap (λ (w : Bool). cond w (Some (i, j)) None) (less_true z (pos 0) (below_trans z b.value (pos 0) (test_true z b.value f) (le_of_lt b.value (pos 0) negative)))
     with_one negative false f = ap (λ (w : Bool). cond w (Some (b.row, b.column)) None) (less_true b.value (pos 0) negative)
 
     at_zero : (x : ℤ) → x ≤ℤ pos 0 → pos 0 ≤ℤ x → x ≡ pos 0
     at_zero x a c = omega (arith, ints)
 
     by : (t : Bool) → int_lt b.value (pos 0) ≡ t → best_pair (better_best b z i j) ≡ better g (cond t (Some (b.row, b.column)) None) i j
-    by true f = let negative : b.value <ℤ pos 0 = less_is b.value (pos 0) f in
+    by true f = let negative : b.value <ℤ pos 0 = test_true b.value (pos 0) f in
         with_one negative (int_lt z b.value) refl ∙ ap₂ (λ (x : ℤ) (y : ℤ). cond (int_lt x y) (Some (i, j)) (Some (b.row, b.column))) e (h.entry negative)
-    by false f = let none : b.value ≡ pos 0 = at_zero b.value h.at_most (less_is_not b.value (pos 0) f) in
+    by false f = let none : b.value ≡ pos 0 = at_zero b.value h.at_most (test_false b.value (pos 0) f) in
         without none (int_lt z b.value) refl ∙ ap₂ (λ (x : ℤ) (y : ℤ). cond (int_lt x y) (Some (i, j)) None) e none
 
 -- ---- a row
@@ -76,9 +70,6 @@ pub rows_more : (g : Matrix) (n i : ℕ) → best_in_rows g n (i + 1) ≡ best_i
 rows_more g n i = let e : i + 1 ≡ suc i = omega arith in ap (best_in_rows g n) e
 
 -- ---- the end
-pub none_is_best : (g : Matrix) → IsBestOf g (record { value = pos 0; row = 0; column = 0 })
-none_is_best g = record { at_most = omega (arith, ints); entry = λ h. absurd (omega (arith, ints)) }
-
 pub best_is_pair : (c : ShownCone) (n : ℕ) (b : Best) → n ≡ c.size → best_pair b ≡ best_in_rows (shown_gram c) n n → b.value <ℤ pos 0 → IsPair c.size (shown_gram c) b.row b.column
 unfolding pair_of
 best_is_pair c n b e f negative = pair_of_some c.size (shown_gram c) b.row b.column
@@ -91,7 +82,7 @@ best_is_none c n b e f nonneg = pair_of_none c.size (shown_gram c)
 
 -- the test at the end
 pub tested_negative : (z : ℤ) → FitsSigned w128 z → int_lt (to_z w128 (of_z w128 z)) (pos 0) ≡ true → z <ℤ pos 0
-tested_negative z f t = less_is z (pos 0) (ap (λ (w : ℤ). int_lt w (pos 0)) (sym (to_z-of_z w128 z f)) ∙ t)
+tested_negative z f t = test_true z (pos 0) (ap (λ (w : ℤ). int_lt w (pos 0)) (sym (to_z-of_z w128 z f)) ∙ t)
 
 pub tested_not_negative : (z : ℤ) → FitsSigned w128 z → int_lt (to_z w128 (of_z w128 z)) (pos 0) ≡ false → pos 0 ≤ℤ z
-tested_not_negative z f t = less_is_not z (pos 0) (ap (λ (w : ℤ). int_lt w (pos 0)) (sym (to_z-of_z w128 z f)) ∙ t)
+tested_not_negative z f t = test_false z (pos 0) (ap (λ (w : ℤ). int_lt w (pos 0)) (sym (to_z-of_z w128 z f)) ∙ t)

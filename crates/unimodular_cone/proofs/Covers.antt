@@ -1,5 +1,5 @@
 -- Which combinations lie in a cone, in its children, and in the cones below it.
-use Rattle.std.specs.Prelude.{◌≡◌, ◌≢◌, ℕ, ◌<◌, ℤ, pos, negsuc, ◌+ℤ◌, ◌*ℤ◌, ◌-ℤ◌, ◌≤ℤ◌, cond, eqb, Bool, true, false, ◌⊎◌, Option, Some, None, [], ◌∷◌, ◌++◌}
+use Rattle.std.specs.Prelude.{◌≡◌, ◌≢◌, ℕ, ◌<◌, ℤ, pos, ◌+ℤ◌, ◌*ℤ◌, ◌-ℤ◌, ◌≤ℤ◌, cond, eqb, Bool, true, false, ◌⊎◌, Option, Some, None, [], ◌∷◌, ◌++◌}
 use Rattle.std.proofs.Common.{arith, sym, ◌∙◌, ap, ap₂, refl, inl, inr}
 use Rattle.std.proofs.lemmas.Int.{ints}
 use Rattle.exact_forms.specs.Sums.{sum_to}
@@ -9,7 +9,7 @@ use Rattle.commutative_ring.proofs.Laws.{one_mul_ℤ, zero_mul_ℤ, mul_zero_ℤ
 use Rattle.commutative_ring.proofs.Expand.{linear, times_one}
 use Rattle.exact_forms.proofs.Sums.{sum_to_same, sum_to_one, sum_to_none}
 use Rattle.exact_forms.proofs.Forms.{form_same, bilinear_symmetric}
-use Rattle.exact_forms.proofs.Slacks.{same_or_not, replaced_here, replaced_other, closed_bound, closed_at_zero, closed_equality, some_nonzero, child_zero_covers, child_coefficients_nonnegative, IsUnit}
+use Rattle.exact_forms.proofs.Slacks.{same_or_not, replaced_here, replaced_other, closed_bound, closed_at_zero, closed_equality, some_nonzero, child_zero_covers, child_coefficients_nonnegative, IsUnit, shortfall_of_nonneg}
 use Rattle.unimodular_cone.proofs.Pairs.{pair_of_some, pair_of_none}
 use Rattle.unimodular_cone.specs.Paths.{Path}
 pub use Rattle.unimodular_cone.specs.Theorems.{IsNonzeroBelow}
@@ -132,11 +132,6 @@ closed_attains n q v b x s positive closed l nonzero attained =
     closed_equality n n q v b l.coefficients s positive closed l.nonnegative (nonzero_coefficients n v x l nonzero) (value_same n q _ _ l.same ∙ attained) in
     (r.0, r.1.0, λ p lp. sym (l.same p lp) ∙ combination_unit n l.coefficients v r.0 p r.1)
 
-no_shortfall : (z : ℤ) → pos 0 ≤ℤ z → shortfall z ≡ pos 0
-unfolding shortfall
-no_shortfall (pos n) h = refl
-no_shortfall (negsuc n) h = absurd (omega (arith, ints))
-
 -- a cone with no negative entry beside the diagonal is closed at each bound of its values
 pub closed_without_pair : (n : ℕ) (q : Matrix) (v : Generators) (b : ℤ) → IsSymmetric n q → pair_of n (gram n q v) ≡ None → ((k : ℕ) → k < n → b ≤ℤ value n q v k) → IsClosed n (gram n q v) b
 unfolding slack
@@ -158,7 +153,7 @@ closed_without_pair n q v b s none least i li =
 
     by : (j : ℕ) → j < n → ((j ≡ i) ⊎ (j ≢ i)) → cond (eqb j i) (pos 0) (shortfall (gram n q v i j)) ≡ pos 0
     by j lj (inl e) = replaced_here (λ k. shortfall (gram n q v i k)) i (pos 0) j e
-    by j lj (inr ne) = replaced_other (λ k. shortfall (gram n q v i k)) i (pos 0) j ne ∙ no_shortfall _ (off j lj ne)
+    by j lj (inr ne) = replaced_other (λ k. shortfall (gram n q v i k)) i (pos 0) j ne ∙ shortfall_of_nonneg _ (off j lj ne)
 
 -- ---- paths
 pub cone_from-append : (n : ℕ) (q : Matrix) (v : Generators) (a b : Path) → cone_from n q v (a ++ b) ≡ cone_from n q (cone_from n q v a) b

@@ -1,5 +1,5 @@
 -- What a cone's fields show.
-use Rattle.std.specs.Prelude.{◌≡◌, ◌⊎◌, ℕ, zero, suc, ◌<◌, ◌≤◌, ◌+◌, ◌-◌, max, min, pos, List, [], ◌∷◌, take, map, slice_index_or}
+use Rattle.std.specs.Prelude.{◌≡◌, ◌⊎◌, ℕ, zero, suc, ◌<◌, ◌≤◌, ◌+◌, max, min, pos, List, [], ◌∷◌, take, map, slice_index_or}
 use Rattle.std.proofs.Common.{arith, sym, ◌∙◌, ap, refl, inl, inr}
 use Rattle.exact_forms.specs.Triangles.{triangle}
 use Rattle.exact_forms.proofs.Triangles.{entry_in_below, entry_before}
@@ -38,20 +38,19 @@ gram_shown c i j le li = entry_in_below (pos 0) (take (triangle c.n) c.gram) i j
 order : (i j : ℕ) → (j ≤ i) ⊎ (i < j)
 order i j = grind arith
 
--- from a row and a column that count from 1
-pub gram_read : (c : Inside) (i j : ℕ) → 1 ≤ i → 1 ≤ j → i ≤ c.n → j ≤ c.n
-    → slice_index_or c.gram (triangle (max i j - 1) + (min i j - 1)) (pos 0) ≡ shown_gram (shown_of c) (i - 1) (j - 1)
-gram_read c i j hi hj li lj = by (order i j)
+-- at a row and a column in either order
+pub gram_placed : (c : Inside) (i j : ℕ) → i < c.n → j < c.n → slice_index_or c.gram (triangle (max i j) + min i j) (pos 0) ≡ shown_gram (shown_of c) i j
+gram_placed c i j li lj = by (order i j)
   where
-    by : ((j ≤ i) ⊎ (i < j)) → slice_index_or c.gram (triangle (max i j - 1) + (min i j - 1)) (pos 0) ≡ shown_gram (shown_of c) (i - 1) (j - 1)
+    by : ((j ≤ i) ⊎ (i < j)) → slice_index_or c.gram (triangle (max i j) + min i j) (pos 0) ≡ shown_gram (shown_of c) i j
     by (inl le) =
         let a : max i j ≡ i = omega arith in
         let b : min i j ≡ j = omega arith in
-        rw (a, b) (sym (gram_shown c (i - 1) (j - 1) (omega arith) (omega arith)))
+        rw (a, b) (sym (gram_shown c i j le li))
     by (inr lt) =
         let a : max i j ≡ j = omega arith in
         let b : min i j ≡ i = omega arith in
-        rw (a, b) (sym (gram_shown c (j - 1) (i - 1) (omega arith) (omega arith)) ∙ shown_gram_mirror (shown_of c) (j - 1) (i - 1))
+        rw (a, b) (sym (gram_shown c j i (omega arith) lj) ∙ shown_gram_mirror (shown_of c) j i)
 
 triangle_8 : triangle 8 ≡ 36
 unfolding triangle

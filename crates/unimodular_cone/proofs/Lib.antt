@@ -16,6 +16,7 @@ pub mod BestPairs
 pub mod Mediants
 pub mod Limits
 pub mod Fields
+pub mod Places
 pub mod RowSet
 pub mod LimitsSame
 pub mod Replaced

@@ -1,18 +1,19 @@
 -- The first entry of a child that is over its limit stands with the mediant.
-use Rattle.std.specs.Prelude.{◌≡◌, ◌≢◌, ◌⊎◌, ℕ, zero, suc, ◌<◌, ◌≤◌, ◌+◌, ◌^◌, max, min, ℤ, pos, ◌+ℤ◌, ◌<ℤ◌, nat_abs, List, slice_index_or}
-use Rattle.std.proofs.Common.{arith, sym, ◌∙◌, ap, ap₂, refl, inl, inr, subst}
+use Rattle.std.specs.Prelude.{◌≡◌, ◌≢◌, ◌⊎◌, ℕ, zero, suc, ◌<◌, ◌≤◌, ◌+◌, ◌^◌, max, min, ℤ, pos, ◌+ℤ◌, ◌<ℤ◌, nat_abs, List, length, slice_index_or, slice_set}
+use Rattle.std.proofs.Common.{arith, sym, ◌∙◌, ap, ap₂, refl, inl, inr, subst, get_or-set_other, get_or-set_same}
 use Rattle.std.proofs.lemmas.Int.{ints}
 use Rattle.exact_forms.proofs.Slacks.{same_or_not, replaced_here, replaced_other}
 use Rattle.unimodular_cone.specs.Cones.{child, child_gram, WideEntry, Coordinate, Gram, IsOverLimit, StandsBefore}
-use Rattle.unimodular_cone.specs.Shown.{ShownCone, shown_gram, shown_generators, IsWithinLimits}
-use Rattle.unimodular_cone.specs.Mediant.{IsMediantOf, IsRowOf, HoldsFirstAt, FitsWith, IsFirstOverWith, wide_gram}
+use Rattle.unimodular_cone.specs.Shown.{ShownCone, shown_gram, shown_coordinate, shown_generators, IsWithinLimits}
+use Rattle.unimodular_cone.specs.Mediant.{IsMediantOf, AreProducts, IsRowOf, HoldsFirstAt, FitsWith, IsFirstOverWith, wide_gram}
 use Rattle.unimodular_cone.proofs.Additions.{child_gram_other, child_gram_mirror}
+use Rattle.unimodular_cone.proofs.Mediants.{row_is}
 use Rattle.unimodular_cone.proofs.ShownLaws.{shown_gram_mirror, gram_within, coordinate_within}
 
-abbrev IsWideCoordinate : ℕ → Type 0
+abbrev pub IsWideCoordinate : ℕ → Type 0
 IsWideCoordinate x = 2 ^ 62 < x
 
-abbrev IsWideProduct : ℤ → Type 0
+abbrev pub IsWideProduct : ℤ → Type 0
 IsWideProduct z = 2 ^ 100 < nat_abs z
 
 lower_it : (x : ℕ) → pos (2 ^ 62) <ℤ pos x → 2 ^ 62 < x
@@ -122,3 +123,39 @@ module _ (c : ShownCone) (w : IsWithinLimits c) (r s : ℕ) (lr : r < c.size) (l
       by : ((k ≤ r) ⊎ (r < k)) → IsFirstOverWith c r s (wide_gram r k)
       by (inl le) = let a : max r k + 1 ≡ suc r = omega arith in let b : min r k + 1 ≡ suc k = omega arith in subst (λ (e : WideEntry). IsFirstOverWith c r s e) (ap₂ Gram (sym a) (sym b)) (in_row none k le h)
       by (inr lt) = let a : max r k + 1 ≡ suc k = omega arith in let b : min r k + 1 ≡ suc r = omega arith in subst (λ (e : WideEntry). IsFirstOverWith c r s e) (ap₂ Gram (sym a) (sym b)) (in_column none k lt h)
+
+-- ---- both children at once
+pub mediant_mirror : (c : ShownCone) (r s : ℕ) (xs : List ℕ) → IsMediantOf c r s xs → IsMediantOf c s r xs
+mediant_mirror c r s xs h = record { sums = λ p l. h.sums p l ∙ swap (shown_coordinate c r p) (shown_coordinate c s p) }
+  where
+    swap : (a b : ℕ) → a + b ≡ b + a
+    swap a b = omega arith
+
+pub int_swap : (a b : ℤ) → a +ℤ b ≡ b +ℤ a
+int_swap a b = omega (arith, ints)
+
+pub products_mirror : (c : ShownCone) (r s : ℕ) (products : List ℤ) → AreProducts c r s products → AreProducts c s r products
+products_mirror c r s products h k l = h k l ∙ int_swap (shown_gram c r k) (shown_gram c s k)
+
+-- every product fits, and the product of the mediant with itself
+pub fits_by_products : (c : ShownCone) → IsWithinLimits c → (r s : ℕ) → r < c.size → s < c.size → (xs : List ℕ) (products : List ℤ) → IsMediantOf c r s xs → AreProducts c r s products → length products ≡ 8
+    → ((p : ℕ) → p < c.size → ¬ IsWideCoordinate (slice_index_or xs p 0)) → ((k : ℕ) → k < c.size → ¬ IsWideProduct (slice_index_or products k (pos 0)))
+    → ¬ IsWideProduct (slice_index_or products r (pos 0) +ℤ slice_index_or products s (pos 0)) → FitsWith c r s
+fits_by_products c w r s lr ls xs products hx hp room coordinates rest square =
+    fits_with c w r s lr ls xs (slice_set products r corner) hx (row_is c r s r products corner hp inside refl (ap₂ (λ (a : ℤ) (b : ℤ). a +ℤ b) (hp r lr) (hp s ls))) coordinates (λ k l. by k l (same_or_not k r))
+  where
+    corner : ℤ
+    corner = slice_index_or products r (pos 0) +ℤ slice_index_or products s (pos 0)
+
+    inside : r < length products
+    inside = omega (arith, w.few)
+
+    by : (k : ℕ) → k < c.size → ((k ≡ r) ⊎ (k ≢ r)) → ¬ IsWideProduct (slice_index_or (slice_set products r corner) k (pos 0))
+    by k l (inl e) = subst (λ (z : ℤ). ¬ IsWideProduct z) (sym (ap (λ (i : ℕ). slice_index_or (slice_set products r corner) i (pos 0)) e ∙ get_or-set_same products r corner (pos 0) inside)) square
+    by k l (inr ne) = subst (λ (z : ℤ). ¬ IsWideProduct z) (sym (get_or-set_other products r k corner (pos 0) ne)) (rest k l)
+
+pub not_wide : (u : ℕ) (z : ℤ) → u ≤ 2 ^ 100 → u ≡ nat_abs z → ¬ IsWideProduct z
+not_wide u z le e l = omega arith
+
+pub product_bound : (z : ℤ) → ¬ IsWideProduct z → nat_abs z ≤ 2 ^ 101
+product_bound z h = omega arith

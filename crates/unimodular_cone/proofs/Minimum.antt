@@ -8,8 +8,8 @@ use Rattle.exact_forms.specs.Slacks.{AreNonnegative}
 use Rattle.unimodular_cone.specs.Paths.{Path, IsAbove}
 use Rattle.unimodular_cone.specs.Cones.{Matrix, gram, value, cone_at, pair_of}
 use Rattle.unimodular_cone.specs.Tree.{Mode, Sign, Least, CanSplit, IsInTree, IsLowValue, IsLow, IsClosedAt, IsFinalBound, HasWideChild}
-use Rattle.unimodular_cone.specs.Answer.{coordinate, IsNonzero, Attains, IsMinimum, IsCopositive, Found, Copositive, Low, IsSearchAnswer, IsClosedAnswer, IsVector}
-use Rattle.unimodular_cone.proofs.Covers.{value_same, closed_at_least, closed_nonnegative, closed_attains, closed_without_pair, IsNonzeroBelow}
+use Rattle.unimodular_cone.specs.Answer.{coordinate, IsNonzero, IsLowVector, Attains, IsMinimum, IsCopositive, Found, Copositive, Low, IsSearchAnswer, IsClosedAnswer, IsVector}
+use Rattle.unimodular_cone.proofs.Covers.{value_same, closed_at_least, closed_nonnegative, closed_without_pair, IsNonzeroBelow}
 use Rattle.unimodular_cone.proofs.Bounded.{closed_or_not}
 use Rattle.unimodular_cone.proofs.Generators.{listed, as_vector, proper}
 use Rattle.unimodular_cone.proofs.Tree.{above_child, none_above_root, in_tree_root, in_tree_child, HasChildren, StopsAt, descend_from_root, wide_or_splits}
@@ -72,7 +72,7 @@ module _ (m : Mode) (n : ℕ) (q : Matrix) (d : ℕ) (b : ℤ) (s : IsSymmetric 
   lies_in_closed x nonneg = descend_from_root n q (IsWayDown n q d b) (λ p. IsClosedAt n q p b) d x (λ p w. w.in_tree.short) step
       (record { in_tree = in_tree_root n q d; above = λ c h. absurd (none_above_root c h) }) nonneg
 
-nonneg_place : (n : ℕ) (x : List ℕ) → AreNonnegative n (coordinate x)
+pub nonneg_place : (n : ℕ) (x : List ℕ) → AreNonnegative n (coordinate x)
 nonneg_place n x k l = omega (arith, ints)
 
 pub copositive_is : (n : ℕ) (q : Matrix) (d : ℕ) → IsSymmetric n q → IsSearchAnswer Sign n q d Copositive → IsCopositive n q
@@ -121,13 +121,10 @@ minimum_is n q d b vectors s (_, a, lists) = record {
         let attains : Attains n q b x = record { size = h.size; nonzero = nonzero_vector n x v h ((proper n q path).nonzero k l); value = value_same n q (coordinate x) v h.same ∙ e } in
         empty_contains x (subst (λ (w : List (List ℕ)). Contains w x) none (lists.all x attains))
 
-pub low_is : (m : Mode) (n : ℕ) (q : Matrix) (d : ℕ) (x : List ℕ) (z : ℤ) (path : Path) → IsSearchAnswer m n q d (Low x z path) → form n q (coordinate x) ≡ z
-low_is m n q d x z path a = value_same n q (coordinate x) (cone_at n q path a.which) a.vector.same ∙ a.value
-
--- and each attaining vector is a generator of a cone of the tree
-pub attaining_is_generator : (n : ℕ) (q : Matrix) (d : ℕ) (b : ℤ) (x : List ℕ) → IsSymmetric n q → IsClosedAnswer Least n q d b → pos 1 ≤ℤ b → Attains n q b x
-    → (path : Path) × (k : ℕ) × IsInTree n q d path × (k < n) × ((p : ℕ) → p < n → coordinate x p ≡ cone_at n q path k p)
-attaining_is_generator n q d b x s a positive h =
-    let r = lies_in_closed Least n q d b s a (coordinate x) (nonneg_place n x) in
-    let g = closed_attains n q (cone_at n q r.path) b (coordinate x) s positive r.stops r.lies h.nonzero h.value in
-    (r.path, g.0, r.reached.in_tree, g.1, g.2)
+pub low_is : (m : Mode) (n : ℕ) (q : Matrix) (d : ℕ) (x : List ℕ) (z : ℤ) (path : Path) → IsSearchAnswer m n q d (Low x z path) → IsLowVector m n q x z
+low_is m n q d x z path a = record {
+  size = a.vector.size;
+  nonzero = nonzero_vector n x (cone_at n q path a.which) a.vector ((proper n q path).nonzero a.which a.is_which.range);
+  value = value_same n q (coordinate x) (cone_at n q path a.which) a.vector.same ∙ a.value;
+  low = subst (IsLowValue m) a.value a.is_which.low;
+}

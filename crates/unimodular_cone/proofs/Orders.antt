@@ -1,11 +1,10 @@
 -- The orders of paths, and what stands above a path.
-use Rattle.std.specs.Prelude.{◌≡◌, ◌≢◌, ℕ, zero, suc, ◌<◌, true, false, [], ◌∷◌, length, ◌++◌, take}
-use Rattle.std.specs.Ordering.{MatchOrdering, nat_cmp, ordering_then}
-use Rattle.std.specs.Cmp.{ranks}
+use Rattle.std.specs.Prelude.{◌≡◌, ℕ, zero, suc, ◌<◌, true, false, [], ◌∷◌, length, ◌++◌, take}
+use Rattle.std.specs.Ordering.{MatchOrdering}
 use Rattle.std.specs.declared.cmp.Ordering.{Ordering}
 use Rattle.std.specs.declared.cmp.Ordering.TheVariants.{Less, Equal, Greater}
-use Rattle.std.proofs.Common.{arith, sym, ◌∙◌, ap, refl, inl, inr, subst}
-use Rattle.unimodular_cone.specs.Paths.{Path, IsAbove, IsNoLater, IsNoDeeper, place_order, depth_order}
+use Rattle.std.proofs.Common.{arith, sym, ◌∙◌, ap, refl}
+use Rattle.unimodular_cone.specs.Paths.{Path, IsAbove, IsNoLater, place_order}
 
 -- what an answer of the order by place says
 pub place_order_is : (p r : Path) → MatchOrdering (place_order p r) (IsNoLater p r × (¬ IsNoLater r p)) (p ≡ r) (IsNoLater r p × (¬ IsNoLater p r))
@@ -34,24 +33,6 @@ pub no_later_self : (p : Path) → IsNoLater p p
 no_later_self [] = tt
 no_later_self (false ∷ p) = no_later_self p
 no_later_self (true ∷ p) = no_later_self p
-
--- and by depth
-pub depth_order_is : (p r : Path) → MatchOrdering (depth_order p r) (IsNoDeeper p r × (p ≢ r)) (p ≡ r) (IsNoDeeper r p × (p ≢ r))
-unfolding depth_order
-depth_order_is p r = by (nat_cmp (length p) (length r)) (ranks (length p) (length r))
-  where
-    apart : (a b : ℕ) → a < b → a ≢ b
-    apart a b l e = omega arith
-
-    same : (o : Ordering) → length p ≡ length r → MatchOrdering o (IsNoLater p r × (¬ IsNoLater r p)) (p ≡ r) (IsNoLater r p × (¬ IsNoLater p r)) → MatchOrdering o (IsNoDeeper p r × (p ≢ r)) (p ≡ r) (IsNoDeeper r p × (p ≢ r))
-    same Less e (h, k) = (inr (e, h), λ f. k (subst (λ (w : Path). IsNoLater w p) f (no_later_self p)))
-    same Equal e h = h
-    same Greater e (h, k) = (inr (sym e, h), λ f. k (subst (λ (w : Path). IsNoLater p w) f (no_later_self p)))
-
-    by : (o : Ordering) → MatchOrdering o (length p < length r) (length p ≡ length r) (length r < length p) → MatchOrdering (ordering_then o (place_order p r)) (IsNoDeeper p r × (p ≢ r)) (p ≡ r) (IsNoDeeper r p × (p ≢ r))
-    by Less l = (inl l, λ f. apart _ _ l (ap length f))
-    by Equal e = same (place_order p r) e (place_order_is p r)
-    by Greater l = (inl l, λ f. apart _ _ l (ap length (sym f)))
 
 pub no_later_trans : (p r t : Path) → IsNoLater p r → IsNoLater r t → IsNoLater p t
 no_later_trans [] r t h k = tt

@@ -19,10 +19,10 @@ skipped : (n : ℕ) (g : Matrix) (i j : ℕ) (b : Option (ℕ × ℕ)) → j ≤
 skipped n g i j None le h = λ k l s. h k l (grind arith)
 skipped n g i j (Some (a, b)) le h = (grind arith, h.1, (λ k l s. h.2 k l (grind arith)), λ k l s e. h.3 k l (grind arith) e)
 
-test_true : (x y : ℤ) → int_lt x y ≡ true → x <ℤ y
+pub test_true : (x y : ℤ) → int_lt x y ≡ true → x <ℤ y
 test_true x y e = grind (arith, ints)
 
-test_false : (x y : ℤ) → int_lt x y ≡ false → y ≤ℤ x
+pub test_false : (x y : ℤ) → int_lt x y ≡ false → y ≤ℤ x
 test_false x y e = grind (arith, ints)
 
 seen_cases : (n i j k l : ℕ) → IsSeen n i (suc j) k l → IsSeen n i j k l ⊎ ((k ≡ i) × (l ≡ j))

@@ -1,14 +1,15 @@
 -- A slack as a loop over the columns makes it.
-use Rattle.std.specs.Prelude.{◌≡◌, ◌≢◌, ℕ, ◌<◌, ◌≤◌, ◌+◌, ◌*◌, ◌^◌, ℤ, pos, negsuc, ◌+ℤ◌, ◌≤ℤ◌, ◌<ℤ◌, neg_ℤ, nat_abs, int_lt, true, false, FitsSigned, ◌⊎◌}
+use Rattle.std.specs.Prelude.{◌≡◌, ◌≢◌, ℕ, ◌<◌, ◌≤◌, ◌+◌, ◌*◌, ◌^◌, ℤ, pos, ◌+ℤ◌, ◌≤ℤ◌, ◌<ℤ◌, neg_ℤ, nat_abs, int_lt, true, false, FitsSigned, ◌⊎◌}
 use Rattle.std.specs.Int.{w128}
-use Rattle.std.proofs.Common.{arith, to_z, of_z, sym, ◌∙◌, ap, refl, inl, inr, subst}
+use Rattle.std.proofs.Common.{arith, to_z, of_z, sym, ◌∙◌, ap, inl, inr, subst}
 use Rattle.std.proofs.lemmas.Int.{ints, to_z-of_z}
 use Rattle.commutative_ring.proofs.Expand.{linear}
 use Rattle.exact_forms.specs.Sums.{sum_to}
 use Rattle.exact_forms.specs.Slacks.{shortfall, slack}
 use Rattle.unimodular_cone.specs.PartSlack.{beside, IsPartSlack}
 use Rattle.exact_forms.proofs.Sums.{sum_to-zero, sum_to_more}
-use Rattle.exact_forms.proofs.Slacks.{same_or_not, replaced_here, replaced_other}
+use Rattle.exact_forms.proofs.Slacks.{same_or_not, replaced_here, replaced_other, shortfall_of_negative, shortfall_of_nonneg}
+use Rattle.unimodular_cone.proofs.Pairs.{test_true, test_false}
 
 pub part_start : (g : ℕ → ℕ → ℤ) (i : ℕ) → nat_abs (g i i) ≤ 2 ^ 100 → IsPartSlack g i 0 (g i i)
 part_start g i small = record {
@@ -17,20 +18,10 @@ part_start g i small = record {
   low = omega (arith, ints);
 }
 
-shortfall_negative : (z : ℤ) → z <ℤ pos 0 → shortfall z ≡ neg_ℤ z
-unfolding shortfall
-shortfall_negative (pos n) h = absurd (omega (arith, ints))
-shortfall_negative (negsuc n) h = refl
-
-shortfall_none : (z : ℤ) → pos 0 ≤ℤ z → shortfall z ≡ pos 0
-unfolding shortfall
-shortfall_none (pos n) h = refl
-shortfall_none (negsuc n) h = absurd (omega (arith, ints))
-
 pub part_added : (g : ℕ → ℕ → ℤ) (i j : ℕ) (left : ℤ) → IsPartSlack g i j left → j ≢ i → g i j <ℤ pos 0 → nat_abs (g i j) ≤ 2 ^ 100 → IsPartSlack g i (j + 1) (left +ℤ g i j)
 part_added g i j left p ne negative small =
     let more : sum_to (j + 1) (beside g i) ≡ sum_to j (beside g i) +ℤ beside g i j = sum_to_more j (beside g i) in
-    let here : beside g i j ≡ neg_ℤ (g i j) = replaced_other (λ k. shortfall (g i k)) i (pos 0) j ne ∙ shortfall_negative (g i j) negative in
+    let here : beside g i j ≡ neg_ℤ (g i j) = replaced_other (λ k. shortfall (g i k)) i (pos 0) j ne ∙ shortfall_of_negative (g i j) negative in
     let v : left +ℤ sum_to j (beside g i) ≡ g i i = p.value in
     let h : left ≤ℤ pos (2 ^ 100) = p.high in
     let l : neg_ℤ (pos (2 ^ 100 * (j + 1))) ≤ℤ left = p.low in
@@ -55,7 +46,7 @@ part_kept g i j left p none =
     nothing : ((j ≡ i) ⊎ (j ≢ i)) → ((j ≡ i) ⊎ (pos 0 ≤ℤ g i j)) → beside g i j ≡ pos 0
     nothing (inl e) h = replaced_here (λ k. shortfall (g i k)) i (pos 0) j e
     nothing (inr ne) (inl e) = absurd (ne e)
-    nothing (inr ne) (inr h) = replaced_other (λ k. shortfall (g i k)) i (pos 0) j ne ∙ shortfall_none (g i j) h
+    nothing (inr ne) (inr h) = replaced_other (λ k. shortfall (g i k)) i (pos 0) j ne ∙ shortfall_of_nonneg (g i j) h
 
 pub part_whole : (g : ℕ → ℕ → ℤ) (i n : ℕ) (left : ℤ) → IsPartSlack g i n left → left ≡ slack n g i
 unfolding slack
@@ -68,12 +59,6 @@ part_fits g i j left p few small =
     omega (arith, ints)
 
 -- ---- as the code has them
-is_negative : (y : ℤ) → int_lt y (pos 0) ≡ true → y <ℤ pos 0
-is_negative y h = grind (arith, ints)
-
-is_not_negative : (y : ℤ) → int_lt y (pos 0) ≡ false → pos 0 ≤ℤ y
-is_not_negative y h = grind (arith, ints)
-
 -- a Gram entry that was read
 pub read_back : (z y : ℤ) → z ≡ y → nat_abs y ≤ 2 ^ 100 → to_z w128 (of_z w128 z) ≡ y
 read_back z y e small = let f : FitsSigned w128 z = omega (arith, ints) in to_z-of_z w128 z f ∙ e
@@ -90,11 +75,11 @@ pub part_added_read : (g : ℕ → ℕ → ℤ) (i j : ℕ) (left y z : ℤ) →
 part_added_read g i j left y z p few e small ne negative is =
     let sum : left +ℤ y ≡ left +ℤ g i j = ap (λ (w : ℤ). left +ℤ w) e in
     let back : to_z w128 (of_z w128 (left +ℤ g i j)) ≡ left +ℤ g i j = to_z-of_z w128 (left +ℤ g i j) (part_fits g i j left p few small) in
-    subst (IsPartSlack g i (j + 1)) (sym (is ∙ ap (λ (w : ℤ). to_z w128 (of_z w128 w)) sum ∙ back)) (part_added g i j left p ne (subst (λ (w : ℤ). w <ℤ pos 0) e (is_negative y negative)) small)
+    subst (IsPartSlack g i (j + 1)) (sym (is ∙ ap (λ (w : ℤ). to_z w128 (of_z w128 w)) sum ∙ back)) (part_added g i j left p ne (subst (λ (w : ℤ). w <ℤ pos 0) e (test_true y (pos 0) negative)) small)
 
 pub part_kept_read : (g : ℕ → ℕ → ℤ) (i j : ℕ) (left y z : ℤ) → IsPartSlack g i j left → y ≡ g i j → ((j ≡ i) ⊎ (int_lt y (pos 0) ≡ false)) → z ≡ left → IsPartSlack g i (j + 1) z
 part_kept_read g i j left y z p e none is = subst (IsPartSlack g i (j + 1)) (sym is) (part_kept g i j left p (by none))
   where
     by : ((j ≡ i) ⊎ (int_lt y (pos 0) ≡ false)) → (j ≡ i) ⊎ (pos 0 ≤ℤ g i j)
     by (inl h) = inl h
-    by (inr h) = inr (subst (λ (w : ℤ). pos 0 ≤ℤ w) e (is_not_negative y h))
+    by (inr h) = inr (subst (λ (w : ℤ). pos 0 ≤ℤ w) e (test_false y (pos 0) h))

@@ -1,18 +1,21 @@
 -- The numbers of a child, made from its parent's.
-use Rattle.std.specs.Prelude.{◌≡◌, ◌≢◌, ◌⊎◌, ℕ, ◌<◌, ◌≤◌, ◌+◌, ℤ, pos, ◌+ℤ◌, List, [], length, slice_index_or, slice_set}
-use Rattle.std.proofs.Common.{arith, sym, ◌∙◌, ap, ap₂, refl, inl, inr, get_or-set_other, get_or-set_same}
+use Rattle.std.specs.Prelude.{◌≡◌, ◌≢◌, ◌⊎◌, ℕ, ◌<◌, ◌≤◌, ◌+◌, ℤ, pos, ◌+ℤ◌, FitsSigned, List, [], length, slice_index_or, slice_set}
+use Rattle.std.specs.Int.{w128}
+use Rattle.std.proofs.Common.{arith, to_z, of_z, sym, ◌∙◌, ap, ap₂, refl, inl, inr, subst, get_or-set_other, get_or-set_same}
 use Rattle.exact_forms.specs.Triangles.{triangle}
 use Rattle.exact_forms.proofs.Slacks.{same_or_not, replaced_here, replaced_other}
 use Rattle.unimodular_cone.specs.declared.cone.Cone.TheInside.{Inside}
 use Rattle.unimodular_cone.specs.Paths.{Path}
 use Rattle.unimodular_cone.specs.Cones.{child, child_gram}
 use Rattle.unimodular_cone.specs.ConeFields.{shown_of}
-use Rattle.unimodular_cone.specs.Shown.{shown_gram, shown_generators, IsWithinLimits}
-use Rattle.unimodular_cone.specs.Mediant.{IsMediantOf, IsRowOf, FitsWith}
+use Rattle.unimodular_cone.specs.Shown.{ShownCone, shown_gram, shown_generators, IsWithinLimits}
+use Rattle.unimodular_cone.specs.Mediant.{IsMediantOf, AreProducts, IsRowOf, FitsWith}
 use Rattle.unimodular_cone.specs.Replacement.{IsRowSet, IsChildWith}
 use Rattle.unimodular_cone.proofs.Additions.{child_gram_other, child_gram_mirror}
 use Rattle.unimodular_cone.proofs.Fields.{coordinate_shown, gram_shown}
 use Rattle.unimodular_cone.proofs.LimitsSame.{fits_same, same_back}
+use Rattle.unimodular_cone.proofs.Mediants.{read_fits, read_sum, product_small, row_is}
+use Rattle.unimodular_cone.proofs.RowSet.{row_set_corner}
 use Rattle.unimodular_cone.proofs.ShownLaws.{shown_gram_mirror}
 
 module _ (a : Inside) (r s at : ℕ) (path : Path) (xs : List ℕ) (row new : List ℤ) (lr : r < a.n) (ls : s < a.n)
@@ -73,3 +76,36 @@ module _ (a : Inside) (r s at : ℕ) (path : Path) (xs : List ℕ) (row new : Li
     fits = fits_same a.n (child (shown_generators (shown_of a)) r s) (shown_generators (shown_of made)) (child_gram (shown_gram (shown_of a)) r s) (shown_gram (shown_of made))
         (same_back (record { generators = coordinate_made; gram_is = gram_made })) fits;
   }
+
+-- ---- the mediant's products are written, and then the entry on the diagonal
+module _ (a : Inside) (r s at here there : ℕ) (products new : List ℤ) (w : IsWithinLimits (shown_of a)) (lr : r < a.n) (ls : s < a.n) (h : AreProducts (shown_of a) r s products)
+    (set : IsRowSet a.n r a.gram products new) (place : at ≡ triangle r + r) (is : here ≡ r) (is' : there ≡ s) where
+  abbrev corner : ℤ
+  corner = shown_gram (shown_of a) r r +ℤ shown_gram (shown_of a) s r
+
+  abbrev beside : ℤ
+  beside = shown_gram (shown_of a) r s +ℤ shown_gram (shown_of a) s s
+
+  abbrev written : ℤ
+  written = to_z w128 (of_z w128 (to_z w128 (of_z w128 (slice_index_or new at (pos 0))) +ℤ to_z w128 (of_z w128 (slice_index_or products there (pos 0)))))
+
+  corner_is : slice_index_or new at (pos 0) ≡ corner
+  corner_is = ap (λ (k : ℕ). slice_index_or new k (pos 0)) place ∙ set.in_row r (omega arith) lr ∙ h r lr
+
+  beside_is : slice_index_or products there (pos 0) ≡ beside
+  beside_is = ap (λ (k : ℕ). slice_index_or products k (pos 0)) is' ∙ h s ls
+
+  pub corner_fits : FitsSigned w128 (to_z w128 (of_z w128 (slice_index_or new at (pos 0))) +ℤ to_z w128 (of_z w128 (slice_index_or products there (pos 0))))
+  corner_fits = read_fits _ _ corner beside corner_is beside_is (product_small (shown_of a) r s r w lr ls lr) (product_small (shown_of a) r s s w lr ls ls)
+
+  written_is : written ≡ corner +ℤ beside
+  written_is = read_sum _ _ corner beside corner_is beside_is (product_small (shown_of a) r s r w lr ls lr) (product_small (shown_of a) r s s w lr ls ls)
+
+  pub row_written : length products ≡ 8 → IsRowOf (shown_of a) r s (slice_set products here written)
+  row_written room = row_is (shown_of a) r s here products written h (omega (arith, w.few)) is written_is
+
+  pub corner_written : length products ≡ 8 → length a.gram ≡ 36 → IsRowSet a.n r a.gram (slice_set products here written) (slice_set new at written)
+  corner_written room size = row_set_corner a.n r at here a.gram products new written set size (omega (arith, w.few)) (omega (arith, w.few)) place is
+
+pub child_as : (a c d : ShownCone) (r s : ℕ) (path path' : Path) → a ≡ c → path ≡ path' → IsChildWith a r s path d → IsChildWith c r s path' d
+child_as a c d r s path path' e f h = subst (λ (x : ShownCone). IsChildWith x r s path' d) e (subst (λ (p : Path). IsChildWith a r s p d) f h)

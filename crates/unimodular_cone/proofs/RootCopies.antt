@@ -1,12 +1,12 @@
 -- The numbers of the root's cone as loops make them, and what they show.
-use Rattle.std.specs.Prelude.{◌≡◌, ◌≢◌, ◌⊎◌, ℕ, ◌<◌, ◌≤◌, ◌+◌, ℤ, pos, FitsSigned, List, [], length, slice_index_or, slice_set}
+use Rattle.std.specs.Prelude.{◌≡◌, ◌≢◌, ◌⊎◌, ℕ, ◌<◌, ◌≤◌, ◌+◌, ℤ, pos, FitsSigned, List, length, slice_index_or, slice_set}
 use Rattle.std.specs.Int.{w128}
-use Rattle.std.proofs.Common.{arith, to_z, of_z, sym, ◌∙◌, ap, ap₂, inl, inr, get_or-set_other, get_or-set_same, length-set}
+use Rattle.std.proofs.Common.{arith, to_z, of_z, sym, ◌∙◌, ap, inl, inr, get_or-set_other, get_or-set_same, length-set}
 use Rattle.std.proofs.lemmas.Int.{ints, to_z-of_z}
 use Rattle.exact_forms.specs.Triangles.{triangle}
 use Rattle.exact_forms.proofs.Triangles.{place_decides}
 use Rattle.symmetric_matrix.specs.Symmetric.{Symmetric, entry, IsNarrow}
-use Rattle.unimodular_cone.specs.RootNumbers.{IsPartRowCopied, IsRowCopied, IsLowerOf, AreUnitRows}
+use Rattle.unimodular_cone.specs.RootNumbers.{IsPartRowCopied, IsRowCopied, IsLowerOf}
 use Rattle.unimodular_cone.proofs.Fields.{place_below}
 
 -- a number of the matrix that was read
@@ -49,45 +49,3 @@ lower_more q i old new h copied = record { entries = λ a b lb la. by a b lb (la
     by : (a b : ℕ) → b ≤ a → ((a < i) ⊎ (a ≡ i)) → slice_index_or new (triangle a + b) (pos 0) ≡ entry q a b
     by a b lb (inl lt) = copied.before a b lb lt ∙ h.entries a b lb lt
     by a b lb (inr e) = ap (λ (w : ℕ). slice_index_or new (triangle w + b) (pos 0)) e ∙ copied.row b (omega arith) (omega arith) ∙ ap (λ (w : ℕ). entry q w b) (sym e)
-
--- ---- unit vectors
-pub unit_rows_more : (k at : ℕ) (rows : List (List ℕ)) → AreUnitRows k rows → k < 8 → at ≡ k → AreUnitRows (k + 1) (slice_set rows at (slice_set (slice_index_or rows at []) at 1))
-unit_rows_more k at rows h lk e = rw e (record {
-  room = length-set rows k new ∙ h.room;
-  wide = λ a la. wide a la (same_or_not a k);
-  ones = λ a la. one a la (same_or_not a k);
-  zeros = λ a b la ne. zeroed a b la ne (same_or_not a k);
-})
-  where
-    new : List ℕ
-    new = slice_set (slice_index_or rows k []) k 1
-
-    same_or_not : (a k : ℕ) → (a ≡ k) ⊎ (a ≢ k)
-    same_or_not a k = grind arith
-
-    room : k < length rows
-    room = omega (arith, h.room)
-
-    here : (a : ℕ) → a ≡ k → slice_index_or (slice_set rows k new) a [] ≡ new
-    here a e = ap (λ (w : ℕ). slice_index_or (slice_set rows k new) w []) e ∙ get_or-set_same rows k new [] room
-
-    there : (a : ℕ) → a ≢ k → slice_index_or (slice_set rows k new) a [] ≡ slice_index_or rows a []
-    there a ne = get_or-set_other rows k a new [] ne
-
-    wide : (a : ℕ) → a < 8 → ((a ≡ k) ⊎ (a ≢ k)) → length (slice_index_or (slice_set rows k new) a []) ≡ 8
-    wide a la (inl e) = ap length (here a e) ∙ length-set (slice_index_or rows k []) k 1 ∙ h.wide k lk
-    wide a la (inr ne) = ap length (there a ne) ∙ h.wide a la
-
-    one : (a : ℕ) → a < k + 1 → ((a ≡ k) ⊎ (a ≢ k)) → slice_index_or (slice_index_or (slice_set rows k new) a []) a 0 ≡ 1
-    one a la (inl e) =
-        let long : length (slice_index_or rows k []) ≡ 8 = h.wide k lk in
-        let inside : k < length (slice_index_or rows k []) = omega arith in
-        ap₂ (λ (w : List ℕ) (i : ℕ). slice_index_or w i 0) (here a e) e ∙ get_or-set_same (slice_index_or rows k []) k 1 0 inside
-    one a la (inr ne) = ap (λ (w : List ℕ). slice_index_or w a 0) (there a ne) ∙ h.ones a (omega arith)
-
-    zeroed : (a b : ℕ) → a < 8 → a ≢ b → ((a ≡ k) ⊎ (a ≢ k)) → slice_index_or (slice_index_or (slice_set rows k new) a []) b 0 ≡ 0
-    zeroed a b la ne (inl e) =
-        ap (λ (w : List ℕ). slice_index_or w b 0) (here a e)
-        ∙ get_or-set_other (slice_index_or rows k []) k b 1 0 (λ f. ne (e ∙ sym f))
-        ∙ h.zeros k b lk (λ f. ne (e ∙ f))
-    zeroed a b la ne (inr nk) = ap (λ (w : List ℕ). slice_index_or w b 0) (there a nk) ∙ h.zeros a b la ne

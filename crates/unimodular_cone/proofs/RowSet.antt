@@ -2,17 +2,10 @@
 use Rattle.std.specs.Prelude.{◌≡◌, ◌≢◌, ◌⊎◌, ℕ, ◌<◌, ◌≤◌, ◌+◌, max, min, ℤ, pos, List, length, slice_index_or, slice_set}
 use Rattle.std.proofs.Common.{arith, sym, ◌∙◌, ap, ap₂, refl, inl, inr, get_or-set_other, get_or-set_same, length-set}
 use Rattle.exact_forms.specs.Triangles.{triangle}
+use Rattle.exact_forms.proofs.Slacks.{same_or_not}
 use Rattle.exact_forms.proofs.Triangles.{place_decides}
 use Rattle.unimodular_cone.specs.Replacement.{IsPartRowSet}
 use Rattle.unimodular_cone.proofs.Fields.{place_below}
-
-pub row_set_start : (r : ℕ) (old row : List ℤ) → IsPartRowSet 0 r old row old
-row_set_start r old row = record {
-  room = refl;
-  in_row = λ b le l. absurd (omega arith);
-  in_column = λ a le l. absurd (omega arith);
-  elsewhere = λ a b le na nb. refl;
-}
 
 -- another place than that of r and k
 other_place : (r k a b : ℕ) → b ≤ a → ((a ≢ max r k) ⊎ (b ≢ min r k)) → triangle a + b ≢ triangle (max r k) + min r k
@@ -76,3 +69,37 @@ row_set_more r k at old row new v h size lr lk place is = record {
         by : ((k ≤ r) ⊎ (r < k)) → (a ≢ max r k) ⊎ (b ≢ min r k)
         by (inl le) = inl (λ e. na (omega arith))
         by (inr lt) = inr (λ e. nb (omega arith))
+
+-- the corner of a row that is set is written again
+pub row_set_corner : (n r at here : ℕ) (old row new : List ℤ) (v : ℤ) → IsPartRowSet n r old row new → length old ≡ 36 → r < 8 → r < length row
+    → at ≡ triangle r + r → here ≡ r → IsPartRowSet n r old (slice_set row here v) (slice_set new at v)
+row_set_corner n r at here old row new v h size lr room place is = record {
+  room = length-set new at v ∙ h.room;
+  in_row = λ b le l. rw is (in_row b l le (same_or_not b r));
+  in_column = λ a le l. rw is (in_column a l le (same_or_not a r));
+  elsewhere = λ a b le na nb. kept a b le (inl na) ∙ h.elsewhere a b le na nb;
+}
+  where
+    below : triangle r + r < 36
+    below = place_below r r (omega arith) lr
+
+    kept : (a b : ℕ) → b ≤ a → ((a ≢ r) ⊎ (b ≢ r)) → slice_index_or (slice_set new at v) (triangle a + b) (pos 0) ≡ slice_index_or new (triangle a + b) (pos 0)
+    kept a b le ne = get_or-set_other new at (triangle a + b) v (pos 0) (λ e. by ne (place_decides a b r r le (omega arith) (e ∙ place)))
+      where
+        by : ((a ≢ r) ⊎ (b ≢ r)) → (a ≡ r) × (b ≡ r) → ⊥
+        by (inl f) same = f same.0
+        by (inr f) same = f same.1
+
+    corner : (a b : ℕ) → a ≡ r → b ≡ r → slice_index_or (slice_set new at v) (triangle a + b) (pos 0) ≡ slice_index_or (slice_set row r v) r (pos 0)
+    corner a b ea eb =
+        let e : triangle a + b ≡ at = ap₂ (λ (x : ℕ) (y : ℕ). triangle x + y) ea eb ∙ sym place in
+        ap (λ (w : ℕ). slice_index_or (slice_set new at v) w (pos 0)) e
+        ∙ get_or-set_same new at v (pos 0) (omega (arith, h.room, place, below)) ∙ sym (get_or-set_same row r v (pos 0) room)
+
+    in_row : (b : ℕ) → b < n → b ≤ r → ((b ≡ r) ⊎ (b ≢ r)) → slice_index_or (slice_set new at v) (triangle r + b) (pos 0) ≡ slice_index_or (slice_set row r v) b (pos 0)
+    in_row b l le (inl e) = corner r b refl e ∙ ap (λ (w : ℕ). slice_index_or (slice_set row r v) w (pos 0)) (sym e)
+    in_row b l le (inr ne) = kept r b le (inr ne) ∙ h.in_row b le l ∙ sym (get_or-set_other row r b v (pos 0) ne)
+
+    in_column : (a : ℕ) → a < n → r ≤ a → ((a ≡ r) ⊎ (a ≢ r)) → slice_index_or (slice_set new at v) (triangle a + r) (pos 0) ≡ slice_index_or (slice_set row r v) a (pos 0)
+    in_column a l le (inl e) = corner a r e refl ∙ ap (λ (w : ℕ). slice_index_or (slice_set row r v) w (pos 0)) (sym e)
+    in_column a l le (inr ne) = kept a r le (inl ne) ∙ h.in_column a le l ∙ sym (get_or-set_other row r a v (pos 0) ne)

@@ -26,14 +26,14 @@ slack_same n g h i li same =
 pub closed_same : (n : ℕ) (g h : Matrix) (b : ℤ) → ((k l : ℕ) → k < n → l < n → g k l ≡ h k l) → IsClosed n g b → IsClosed n h b
 closed_same n g h b same closed i li = subst (λ (z : ℤ). b ≤ℤ z) (slack_same n g h i li same) (closed i li)
 
-child_same : (n : ℕ) (v w : Generators) (i j k p : ℕ) → i < n → j < n → k < n → p < n → ((k p : ℕ) → k < n → p < n → v k p ≡ w k p) → child v i j k p ≡ child w i j k p
+pub child_same : (n : ℕ) (v w : Generators) (i j k p : ℕ) → i < n → j < n → k < n → p < n → ((k p : ℕ) → k < n → p < n → v k p ≡ w k p) → child v i j k p ≡ child w i j k p
 child_same n v w i j k p li lj lk lp same = by (same_or_not k i)
   where
     by : ((k ≡ i) ⊎ (k ≢ i)) → child v i j k p ≡ child w i j k p
     by (inl e) = child_row v i j k p e ∙ ap₂ (λ (a : ℤ) (b : ℤ). a +ℤ b) (same i p li lp) (same j p lj lp) ∙ sym (child_row w i j k p e)
     by (inr ne) = child_row_other v i j k p ne ∙ same k p lk lp ∙ sym (child_row_other w i j k p ne)
 
-child_gram_same : (n : ℕ) (g h : Matrix) (i j k l : ℕ) → i < n → j < n → k < n → l < n → ((k l : ℕ) → k < n → l < n → g k l ≡ h k l) → child_gram g i j k l ≡ child_gram h i j k l
+pub child_gram_same : (n : ℕ) (g h : Matrix) (i j k l : ℕ) → i < n → j < n → k < n → l < n → ((k l : ℕ) → k < n → l < n → g k l ≡ h k l) → child_gram g i j k l ≡ child_gram h i j k l
 child_gram_same n g h i j k l li lj lk ll same =
     child_same n (λ b a. child g i j a b) (λ b a. child h i j a b) i j l k li lj ll lk (λ b a lb la. child_same n g h i j a b li lj la lb same)
 

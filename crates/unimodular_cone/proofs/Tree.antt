@@ -1,6 +1,6 @@
 -- The tree of a search: its paths, and the way of a combination down it.
 use Rattle.std.specs.Prelude.{◌≡◌, ◌≢◌, ℕ, zero, suc, ◌<◌, ◌≤◌, ◌+◌, ℤ, Bool, true, false, ◌⊎◌, Option, Some, [], ◌∷◌, ◌++◌, length}
-use Rattle.std.proofs.Common.{arith, sym, ◌∙◌, ap, refl, inl, inr, subst, append_assoc, length-append}
+use Rattle.std.proofs.Common.{arith, sym, ◌∙◌, ap, refl, inl, inr, subst, length-append}
 use Rattle.exact_forms.specs.Slacks.{AreNonnegative}
 use Rattle.unimodular_cone.specs.Paths.{Path, IsAbove}
 use Rattle.unimodular_cone.specs.Cones.{Matrix, Generators, gram, child, child_at, next_cone, cone_from, cone_at, pair_of, unit_vectors, IsPair, LiesIn, Fits, WideEntry, IsFirstOver}
@@ -27,14 +27,8 @@ above_child (x ∷ a) (t ∷ p) side (s, r, e) = by (above_child a p side (s, r,
     by (inl same) = inl (cc)
     by (inr (s', r', e')) = inr (s', r', (cc))
 
-pub parent_above : (p : Path) (side : Bool) → IsAbove p (p ++ side ∷ [])
-parent_above p side = (side, [], refl)
-
 pub above_shorter : (a p : Path) → IsAbove a p → length a < length p
 above_shorter a p (s, r, e) = omega (arith, ap length e, length-append {A = Bool})
-
-pub above_trans : (a b p : Path) → IsAbove a b → IsAbove b p → IsAbove a p
-above_trans a b p (s, r, e) (s', r', e') = (s, r ++ s' ∷ r', e' ∙ ap (λ (w : Path). w ++ s' ∷ r') e ∙ append_assoc a (s ∷ r) (s' ∷ r'))
 
 pub length_child : (p : Path) (side : Bool) → length (p ++ side ∷ []) ≡ suc (length p)
 length_child p side = omega (arith, length-append {A = Bool})
@@ -65,12 +59,6 @@ in_tree_child n q d p side t lt can = record {
     by : (a : Path) → ((a ≡ p) ⊎ IsAbove a p) → CanSplit n q (cone_at n q a)
     by a (inl e) = subst (λ (w : Path). CanSplit n q (cone_at n q w)) (sym e) can
     by a (inr h) = t.above a h
-
-pub in_tree_above : (n : ℕ) (q : Matrix) (d : ℕ) (a p : Path) → IsInTree n q d p → IsAbove a p → IsInTree n q d a
-in_tree_above n q d a p t h = record {
-  short = (let l : length a < length p = above_shorter a p h in let s : length p ≤ d = t.short in omega arith);
-  above = λ b k. t.above b (above_trans b a p k h);
-}
 
 -- ---- the way of a combination down the tree
 pub record HasChildren (n : ℕ) (q : Matrix) (P : Path → Type 0) (p : Path) : Type 0 where

@@ -5,20 +5,15 @@ use Rattle.std.proofs.lemmas.List.{take_more}
 use Rattle.unimodular_cone.specs.declared.refusal.ConeFail.{ConeFail}
 use Rattle.unimodular_cone.specs.declared.refusal.ConeFail.TheVariants.{Wide, OutOfMemory}
 use Rattle.unimodular_cone.specs.Paths.{Path, IsAbove, digit_of, digit_at}
-use Rattle.unimodular_cone.specs.Cones.{Matrix, unit_vectors, gram, cone_from, cone_at, pair_of, IsPair, Fits, IsFirstOver}
-use Rattle.unimodular_cone.specs.Tree.{CanSplit, IsInTree}
+use Rattle.unimodular_cone.specs.Cones.{Matrix, gram, cone_at, pair_of, IsPair, Fits, IsFirstOver}
 use Rattle.unimodular_cone.specs.Shown.{ShownCone, IsConeAt, IsNext, IsFirstWideNext, IsFirstWideAt, IsReachable, IsWideWhere, IsWithinLimits, shown_gram, NamesPair}
 use Rattle.unimodular_cone.proofs.Orders.{take_is_above}
 use Rattle.unimodular_cone.proofs.ShownAt.{child_at_path, wide_at_path, no_pair_at, pair_at, fits_at}
-use Rattle.unimodular_cone.proofs.Tree.{none_above_root, above_child, in_tree_above, fits_in_tree}
+use Rattle.unimodular_cone.proofs.Tree.{above_child}
 
-digit_back : (b : Bool) → nat_eq (digit_of b) 1 ≡ b
+pub digit_back : (b : Bool) → nat_eq (digit_of b) 1 ≡ b
 digit_back false = refl
 digit_back true = refl
-
-pub digit_small : (b : Bool) → digit_of b < 2
-digit_small false = omega arith
-digit_small true = omega arith
 
 module _ (n : ℕ) (q : Matrix) (path : Path) (reach : IsReachable n q path) where
   -- the root is the path itself, or above it
@@ -64,9 +59,6 @@ module _ (n : ℕ) (q : Matrix) (path : Path) (reach : IsReachable n q path) whe
         by (inr lt) = absurd (reach.fits (take (k + 1) path) (take_is_above path (k + 1) lt) at.entry over.over)
 
 -- ---- a way that is gone step by step
-pub reachable_root : (n : ℕ) (q : Matrix) → IsReachable n q []
-reachable_root n q = record { pair = λ a h. absurd (none_above_root a h); fits = λ a h. absurd (none_above_root a h) }
-
 pub reachable_more : (n : ℕ) (q : Matrix) (path : Path) (c : ShownCone) (i j : ℕ) (side : Bool) → IsReachable n q path → IsConeAt n q path c → IsWithinLimits c
     → IsPair c.size (shown_gram c) i j → IsReachable n q (path ++ side ∷ [])
 reachable_more n q path c i j side reach h w p = record {
@@ -85,17 +77,3 @@ reachable_more n q path c i j side reach h w p = record {
     fit : (a : Path) → ((a ≡ path) ⊎ IsAbove a path) → Fits n q (cone_at n q a)
     fit a (inl e) = subst (λ (r : Path). Fits n q (cone_at n q r)) (sym e) (fits_at n q path c h w)
     fit a (inr above) = reach.fits a above
-
--- a path of the tree can be reached
-pub reachable_in_tree : (n : ℕ) (q : Matrix) (d : ℕ) (path : Path) → Fits n q unit_vectors → IsInTree n q d path → IsReachable n q path
-unfolding cone_from
-reachable_in_tree n q d path root t = record { pair = λ a above. has a (t.above a above); fits = λ a above. fit a above }
-  where
-    has : (a : Path) → CanSplit n q (cone_at n q a) → pair_of n (gram n q (cone_at n q a)) ≢ None
-    has a can = λ none. not_none can.i can.j (sym can.pair ∙ none)
-      where
-        not_none : (i j : ℕ) → ◌≢◌ {A = Option (ℕ × ℕ)} (Some (i, j)) None
-        not_none i j e = (cc)
-
-    fit : (a : Path) → IsAbove a path → Fits n q (cone_at n q a)
-    fit a above = fits_in_tree n q d root a (in_tree_above n q d a path t above)

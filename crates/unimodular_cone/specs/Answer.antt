@@ -4,15 +4,17 @@
 --     IsLeastDiagonal n q z          z is the least diagonal entry
 --     IsNarrow m n q                 that entry is at most 2^63 - 1, where the mode is Least
 --     SearchAnswer                   an answer, with what it carries
+--     IsLowVector m n q x z          x is a nonzero vector, and its value z is low: below 0 (Sign), at most 0 (Least)
 --     IsSearchAnswer m n q d answer  the answer of the search of Q to depth d: the first of its six kinds that applies
 --
 -- The copositive minimum and its vectors are those of exact_forms.
 use Rattle.std.specs.Prelude.{ℕ, ℤ, pos, ◌≤ℤ◌, ◌<ℤ◌, ◌<◌, ◌-◌, ◌^◌, ◌≡◌, ◌⊎◌, List, [], length}
 pub use Rattle.exact_forms.specs.Vectors.{coordinate, IsNonzero, ComesBefore, IsIncreasing}
 pub use Rattle.exact_forms.specs.Copositive.{Attains, ListsAttaining, IsMinimum, IsCopositive}
+use Rattle.exact_forms.specs.Forms.{form}
 use Rattle.unimodular_cone.specs.Paths.{Path}
 use Rattle.unimodular_cone.specs.Cones.{Matrix, value, unit_vectors, cone_at, Fits, WideEntry, IsFirstOver}
-use Rattle.unimodular_cone.specs.Tree.{Mode, Sign, Least, IsInTree, IsLow, IsFirstLowAt, IsFirstLow, IsFinalBound, IsOpen, IsFirstOpen, IsFirstOverBelow}
+use Rattle.unimodular_cone.specs.Tree.{Mode, Sign, Least, IsInTree, IsLowValue, IsLow, IsFirstLowAt, IsFirstLow, IsFinalBound, IsOpen, IsFirstOpen, IsFirstOverBelow}
 
 pub data SearchAnswer : Type 0 where
   BoundWide : ℤ → SearchAnswer
@@ -26,6 +28,12 @@ pub data SearchAnswer : Type 0 where
 pub record IsVector (n : ℕ) (x : List ℕ) (v : ℕ → ℤ) : Type 0 where
   pub size : length x ≡ n
   pub same : (p : ℕ) → p < n → coordinate x p ≡ v p
+
+pub record IsLowVector (m : Mode) (n : ℕ) (q : Matrix) (x : List ℕ) (z : ℤ) : Type 0 where
+  pub size : length x ≡ n
+  pub nonzero : IsNonzero n x
+  pub value : form n q (coordinate x) ≡ z
+  pub low : IsLowValue m z
 
 pub record IsLeastDiagonal (n : ℕ) (q : Matrix) (z : ℤ) : Type 0 where
   pub attained : (k : ℕ) × (k < n) × (q k k ≡ z)

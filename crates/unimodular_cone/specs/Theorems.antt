@@ -9,14 +9,16 @@
 --                           two values with the relation are equal
 --     FoundIsMinimum        Found carries the copositive minimum and its minimal vectors
 --     CopositiveHolds       Copositive is answered of copositive matrices alone
---     LowHasItsValue        Low carries a vector with the value that it carries
-use Rattle.std.specs.Prelude.{ℕ, ℤ, pos, ◌≤ℤ◌, ◌<◌, ◌≡◌, ◌≢◌, List}
+--     LowHasItsValue        Low carries a nonzero vector with the value that it carries, and that is low
+--     PairIsFirstLeast      the pair of a cone is its least negative Gram entry beside the diagonal, the first one among
+--                           equals, and it has none where no such entry is negative
+use Rattle.std.specs.Prelude.{ℕ, ℤ, pos, ◌≤ℤ◌, ◌<◌, ◌≡◌, ◌≢◌, List, Some, None}
 use Rattle.exact_forms.specs.Forms.{form, combination, IsSymmetric}
 use Rattle.exact_forms.specs.Slacks.{IsClosed, AreNonnegative}
 use Rattle.unimodular_cone.specs.Paths.{Path}
-use Rattle.unimodular_cone.specs.Cones.{Matrix, Generators, gram, child, LiesIn}
+use Rattle.unimodular_cone.specs.Cones.{Matrix, Generators, gram, child, LiesIn, IsPair, pair_of}
 use Rattle.unimodular_cone.specs.Tree.{Mode, Sign, Least, IsFinalBound, IsFirstLow, IsFirstOpen}
-use Rattle.unimodular_cone.specs.Answer.{coordinate, IsMinimum, IsCopositive, SearchAnswer, Low, Copositive, Found, IsSearchAnswer}
+use Rattle.unimodular_cone.specs.Answer.{IsMinimum, IsCopositive, IsLowVector, SearchAnswer, Low, Copositive, Found, IsSearchAnswer}
 
 pub record CoversOnBothSides (n : ℕ) (v : Generators) (a : ℕ → ℤ) (i j : ℕ) : Type 0 where
   pub first : a i ≤ℤ a j → LiesIn n (child v i j) (combination n a v)
@@ -62,4 +64,10 @@ abbrev pub CopositiveHolds : Type 0
 CopositiveHolds = (n : ℕ) (q : Matrix) (d : ℕ) → IsSymmetric n q → IsSearchAnswer Sign n q d Copositive → IsCopositive n q
 
 abbrev pub LowHasItsValue : Type 0
-LowHasItsValue = (m : Mode) (n : ℕ) (q : Matrix) (d : ℕ) (x : List ℕ) (z : ℤ) (path : Path) → IsSearchAnswer m n q d (Low x z path) → form n q (coordinate x) ≡ z
+LowHasItsValue = (m : Mode) (n : ℕ) (q : Matrix) (d : ℕ) (x : List ℕ) (z : ℤ) (path : Path) → IsSearchAnswer m n q d (Low x z path) → IsLowVector m n q x z
+
+pub record PairIsFirstLeast : Type 0 where
+  pub some : (n : ℕ) (g : Matrix) (i j : ℕ) → pair_of n g ≡ Some (i, j) → IsPair n g i j
+  pub is_some : (n : ℕ) (g : Matrix) (i j : ℕ) → IsPair n g i j → pair_of n g ≡ Some (i, j)
+  pub none : (n : ℕ) (g : Matrix) → pair_of n g ≡ None → (k l : ℕ) → k < l → l < n → pos 0 ≤ℤ g k l
+  pub is_none : (n : ℕ) (g : Matrix) → ((k l : ℕ) → k < l → l < n → pos 0 ≤ℤ g k l) → pair_of n g ≡ None

@@ -1,22 +1,12 @@
 //! The bound test of a cone: its slacks and its least value.
 
-ghost use Rattle.std.specs.Prelude.{◌≡◌, ◌≢◌, ◌≤◌, ◌<◌, ◌^◌, ◌-◌, ◌↔◌, IsTrue, pos, ◌≤ℤ◌, neg_ℤ, nat_abs, ℕ};
+ghost use Rattle.std.specs.Prelude.{◌≡◌, ◌≢◌, ◌≤◌, ◌<◌, ◌^◌, ◌-◌, ◌↔◌, IsTrue, pos, ◌≤ℤ◌, ℕ};
 ghost use Rattle.exact_forms.specs.Slacks.{slack, IsClosed};
 ghost use Rattle.unimodular_cone.specs.Shown.{shown_gram, IsWithinLimits};
 ghost use Rattle.unimodular_cone.specs.PartSlack.{IsPartSlack};
 ghost use Rattle.unimodular_cone.specs.Answer.{IsLeastDiagonal};
 
-use crate::cone_read::ConeRead;
-
-/// The Gram entry at a row and a column that count from 0.
-pub fn entry<C: ConeRead>(c: &C, row: u8, column: u8) -> i128
-    requires few { (C.cone c.now).size ≤ 8 }
-    requires row_in_range { row < (C.cone c.now).size }
-    requires column_in_range { column < (C.cone c.now).size }
-    ensures { result ≡ shown_gram (C.cone c.now) row column }
-{
-    c.gram(row + 1, column + 1)
-}
+use crate::cone_read::{ConeRead, entry};
 
 /// What is left of a slack after some columns, none of them the diagonal's, where this is left before them.
 fn left_after<C: ConeRead>(c: &C, i: u8, first: u8, end: u8, before: i128) -> i128

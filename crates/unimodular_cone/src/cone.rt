@@ -1,13 +1,13 @@
 //! Cones that keep their numbers inline.
 
-ghost use Rattle.std.specs.Prelude.{◌≡◌, ◌≢◌, ◌≤◌, ◌<◌, ◌-◌, [], ◌∷◌, ◌++◌, length, nat_eq, None, IfOk, IfErr};
+ghost use Rattle.std.specs.Prelude.{◌≡◌, ◌≢◌, ◌≤◌, ◌<◌, ◌-◌, [], ◌∷◌, ◌++◌, true, false, length, nat_eq, None, IfOk, IfErr};
 ghost use Rattle.symmetric_matrix.specs.Symmetric.{entry};
-ghost use Rattle.unimodular_cone.specs.Mediant.{FitsWith};
-ghost use Rattle.unimodular_cone.specs.Shown.{FitsOnSide, shown_gram, IsWithinLimits, IsConeAt, IsChild, IsFirstWide, IsFirstWideAt, IsReachable, IsWideWhere, NamesPair, ReachesChild, IsNext, IsFirstWideNext};
+ghost use Rattle.unimodular_cone.specs.Mediant.{FitsWith, IsMediantOf, AreProducts};
+ghost use Rattle.unimodular_cone.specs.Shown.{FitsOnSide, FitsOnBothSides, shown_gram, IsWithinLimits, IsConeAt, IsChild, IsFirstWide, IsFirstWideAt, IsReachable, IsWideWhere, NamesPair, ReachesChild, IsNext, IsFirstWideNext};
 ghost use Rattle.unimodular_cone.specs.Replacement.{IsChildWith, IsFirstWideWith, IsRowSet};
 
 use crate::cone_read::ConeRead;
-use crate::mediant::{first_wide, mediant_coordinates, mediant_row};
+use crate::mediant::{first_wide, mediant_coordinates, mediant_row, products};
 use crate::pair_rule::pair;
 use crate::path::Path;
 use crate::place::place_of;
@@ -40,16 +40,27 @@ impl Model for Cone {
 }
 
 impl Cone {
-    /// The same cone again. It takes no memory.
-    pub fn copy(&self) -> Cone
-        ensures { result ≡ self.now }
+    /// Splits the cone on the sides of the generators i and j, which count from 1. It becomes its child 1, with v_i + v_j in
+    /// the place of v_j, and gives back its child 0, with v_i + v_j in the place of v_i. No entry of either is to be over its
+    /// limit.
+    ///
+    /// The mediant's numbers are made once, by additions, and no memory is taken.
+    pub fn split(&mut self, i: u8, j: u8) -> Cone
+        requires first { 1 ≤ i }
+        requires order { i < j }
+        requires last { j ≤ self.old.size }
+        requires room { length self.old.path < 200 }
+        requires fits { FitsOnBothSides self.old (i - 1) (j - 1) }
+        ensures zero { IsChild self.old (i - 1) (j - 1) false result }
+        ensures one { IsChild self.old (i - 1) (j - 1) true self.new }
     {
-        Cone {
-            n: self.n,
-            path: self.path,
-            gram: self.gram,
-            generators: self.generators,
-        }
+        let (r, s) = (i - 1, j - 1);
+        let coordinates = mediant_coordinates(self, r, s);
+        let products = products(self, r, s, self.n);
+        let mut zero = self.copy();
+        zero.put(&coordinates, &products, r, s, 0);
+        self.put(&coordinates, &products, s, r, 1);
+        zero
     }
 
     /// Goes down to the child on a side of the generators i and j, which count from 1: child 0 has v_i + v_j in the place of
@@ -78,10 +89,20 @@ impl Cone {
         requires column_in_range { column < self.now.size }
         ensures { result ≡ shown_gram self.now row column }
     {
-        if row < column {
-            return self.gram[place_of(column, row)];
-        }
+        let _n = self.n;
         self.gram[place_of(row, column)]
+    }
+
+    /// The same cone again.
+    fn copy(&self) -> Cone
+        ensures { result ≡ self.now }
+    {
+        Cone {
+            n: self.n,
+            path: self.path,
+            gram: self.gram,
+            generators: self.generators,
+        }
     }
 
     /// Puts the mediant of r and s in the place of r, and a digit at the path's end. No entry of that child is over its limit.
@@ -95,10 +116,26 @@ impl Cone {
         ensures { IsChildWith self.old r s (self.old.path ++ nat_eq side 1 ∷ []) self.new }
     {
         let coordinates = mediant_coordinates(self, r, s);
-        let row = mediant_row(self, r, s);
+        let products = products(self, r, s, self.n);
+        self.put(&coordinates, &products, r, s, side);
+    }
+
+    /// The same, with the mediant's coordinates and its products with the generators.
+    fn put(&mut self, coordinates: &[u64; 8], products: &[i128; 8], r: u8, s: u8, side: u8)
+        requires first { r < self.old.size }
+        requires second { s < self.old.size }
+        requires apart { r ≢ s }
+        requires digit { side < 2 }
+        requires room { length self.old.path < 200 }
+        requires coordinates { IsMediantOf self.old r s coordinates.now }
+        requires products { AreProducts self.old r s products.now }
+        requires fits { FitsWith self.old r s }
+        ensures { IsChildWith self.old r s (self.old.path ++ nat_eq side 1 ∷ []) self.new }
+    {
         self.path.push(side);
-        self.generators[usize::from(r)] = coordinates;
-        set_row(&mut self.gram, &row, r, self.n);
+        self.generators[usize::from(r)] = *coordinates;
+        set_row(&mut self.gram, products, r, self.n);
+        self.gram[place_of(r, r)] += products[usize::from(s)];
     }
 }
 
@@ -243,6 +280,6 @@ fn set_row(gram: &mut [i128; 36], row: &[i128; 8], r: u8, n: u8)
     ensures { IsRowSet n r gram.old row.now gram.new }
 {
     for k in 0..n {
-        gram[place_of(r.max(k), r.min(k))] = row[usize::from(k)];
+        gram[place_of(r, k)] = row[usize::from(k)];
     }
 }

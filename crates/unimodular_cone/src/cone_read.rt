@@ -1,6 +1,6 @@
 //! What a cone shows to those that read it.
 
-ghost use Rattle.std.specs.Prelude.{◌≡◌, ◌≤◌, ◌-◌};
+ghost use Rattle.std.specs.Prelude.{◌≡◌, ◌≤◌, ◌<◌, ◌-◌};
 ghost use Rattle.unimodular_cone.specs.Shown.{ShownCone, shown_gram, shown_coordinate, IsWithinLimits};
 
 use crate::path::Path;
@@ -36,4 +36,14 @@ pub trait ConeRead {
         requires first_place { 1 ≤ place }
         requires last_place { place ≤ (cone self.now).size }
         ensures { result ≡ shown_coordinate (cone self.now) (generator - 1) (place - 1) };
+}
+
+/// The Gram entry at a row and a column that count from 0.
+pub fn entry<C: ConeRead>(c: &C, row: u8, column: u8) -> i128
+    requires few { (C.cone c.now).size ≤ 8 }
+    requires row_in_range { row < (C.cone c.now).size }
+    requires column_in_range { column < (C.cone c.now).size }
+    ensures { result ≡ shown_gram (C.cone c.now) row column }
+{
+    c.gram(row + 1, column + 1)
 }

@@ -1,6 +1,6 @@
 //! What holds of all cones and of every search's answer. Each call does nothing: its contract is the law.
 
-ghost use Rattle.unimodular_cone.specs.Theorems.{ChildrenCover, ClosedBounds, AtMostOneFinalBound, AtMostOneFirstLow, AtMostOneFirstOpen, AtMostOneAnswer, FoundIsMinimum, CopositiveHolds, LowHasItsValue};
+ghost use Rattle.unimodular_cone.specs.Theorems.{ChildrenCover, ClosedBounds, AtMostOneFinalBound, AtMostOneFirstLow, AtMostOneFirstOpen, AtMostOneAnswer, FoundIsMinimum, CopositiveHolds, LowHasItsValue, PairIsFirstLeast};
 
 /// A nonnegative integer combination of a cone's generators lies in a child, again with nonnegative integer
 /// coefficients: in child 0 of (i, j) where its j-th coefficient is at least the i-th, in child 1 where the i-th is at
@@ -45,7 +45,14 @@ pub fn copositive_holds()
     ensures { CopositiveHolds }
 {}
 
-/// The answer Low carries a vector with the value that it carries.
+/// The answer Low carries a nonzero vector with the value that it carries, which is below 0, or at most 0 where the least
+/// value is looked for.
 pub fn low_has_its_value()
     ensures { LowHasItsValue }
+{}
+
+/// The pair of a cone is its least negative Gram entry beside the diagonal, the first one among equals by row and then by
+/// column; it has none where no such entry is negative.
+pub fn pair_is_first_least()
+    ensures { PairIsFirstLeast }
 {}

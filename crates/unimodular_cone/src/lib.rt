@@ -22,6 +22,7 @@ pub use cone_read::ConeRead;
 pub use law::{
     at_most_one_answer, at_most_one_final_bound, at_most_one_first_low, at_most_one_first_open,
     children_cover, closed_bounds, copositive_holds, found_is_minimum, low_has_its_value,
+    pair_is_first_least,
 };
 pub use mediant::children_fit;
 pub use mode::Mode;

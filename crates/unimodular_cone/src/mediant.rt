@@ -1,11 +1,10 @@
 //! The mediant of two generators, which takes the place of one of them in a child, and what of it is over its limit.
 
-ghost use Rattle.std.specs.Prelude.{◌≡◌, ◌≢◌, ◌≤◌, ◌<◌, ◌-◌, ◌+ℤ◌, ◌^◌, ℕ, pos, nat_abs, MatchOption, length, slice_index_or};
-ghost use Rattle.unimodular_cone.specs.Shown.{shown_gram, shown_coordinate, IsWithinLimits, FitsOnBothSides, IsFirstWideBelow};
+ghost use Rattle.std.specs.Prelude.{◌≡◌, ◌≢◌, ◌≤◌, ◌<◌, ◌-◌, ◌^◌, IsTrue, pos, nat_abs, MatchOption, length, slice_index_or};
+ghost use Rattle.unimodular_cone.specs.Shown.{shown_coordinate, IsWithinLimits, FitsOnBothSides, IsFirstWideBelow};
 ghost use Rattle.unimodular_cone.specs.Mediant.{IsMediantOf, AreProducts, IsRowOf, IsFirstBelow, wide_gram, FitsWith, IsFirstOverWith};
 
-use crate::bound_test::entry;
-use crate::cone_read::ConeRead;
+use crate::cone_read::{ConeRead, entry};
 use crate::refusal::{WideAt, WideEntry};
 
 /// The coordinate of a generator at a place, which count from 0.
@@ -33,7 +32,7 @@ pub fn mediant_coordinates<C: ConeRead>(c: &C, r: u8, s: u8) -> [u64; 8]
 }
 
 /// The mediant's products with the generators, before it takes the place of one of them.
-fn products<C: ConeRead>(c: &C, r: u8, s: u8, n: u8) -> [i128; 8]
+pub fn products<C: ConeRead>(c: &C, r: u8, s: u8, n: u8) -> [i128; 8]
     requires fits { IsWithinLimits (C.cone c.now) }
     requires size { n ≡ (C.cone c.now).size }
     requires first { r < n }
@@ -148,6 +147,9 @@ pub fn children_fit<C: ConeRead>(c: &C, i: u8, j: u8) -> Option<WideAt>
     let (first, second) = (i - 1, j - 1);
     let coordinates = mediant_coordinates(c, first, second);
     let products = products(c, first, second, c.n());
+    if both_fit(c, &coordinates, &products, first, second) {
+        return None;
+    }
     if let Some(entry) = wide_on(c, &coordinates, &products, first, second) {
         return Some(WideAt {
             path: c.path().child(0),
@@ -161,6 +163,26 @@ pub fn children_fit<C: ConeRead>(c: &C, i: u8, j: u8) -> Option<WideAt>
         }),
         None => None,
     }
+}
+
+/// Whether no entry of either child is over its limit, with what the two share looked at once.
+fn both_fit<C: ConeRead>(c: &C, coordinates: &[u64; 8], products: &[i128; 8], r: u8, s: u8) -> bool
+    requires first { r < (C.cone c.now).size }
+    requires second { s < (C.cone c.now).size }
+    requires apart { r ≢ s }
+    requires coordinates { IsMediantOf (C.cone c.now) r s coordinates.now }
+    requires products { AreProducts (C.cone c.now) r s products.now }
+    ensures first { IsTrue result → FitsWith (C.cone c.now) r s }
+    ensures second { IsTrue result → FitsWith (C.cone c.now) s r }
+{
+    let n = c.n();
+    let None = first_wide_coordinate(coordinates, n) else {
+        return false;
+    };
+    let None = first_wide_product(products, n) else {
+        return false;
+    };
+    (products[usize::from(r)] + products[usize::from(s)]).unsigned_abs() <= 1 << 100
 }
 
 /// The first entry over its limit in the child in which the mediant of r and s takes the place of r.

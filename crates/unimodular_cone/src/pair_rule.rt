@@ -5,8 +5,7 @@ ghost use Rattle.unimodular_cone.specs.BestPair.{best_pair, IsBestOf, better_bes
 ghost use Rattle.unimodular_cone.specs.Cones.{best_in_row};
 ghost use Rattle.unimodular_cone.specs.Shown.{shown_gram, IsWithinLimits, NamesPair};
 
-use crate::bound_test::entry;
-use crate::cone_read::ConeRead;
+use crate::cone_read::{ConeRead, entry};
 
 /// The least negative entry so far and its place, from 0; the value 0 where there is none.
 ///

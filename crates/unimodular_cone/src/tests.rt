@@ -130,6 +130,59 @@ fn entries_over_their_limits(rt: HostRuntime) -> Result<(), Fail> {
     Ok(())
 }
 
+/// The cone of a matrix down a path that begins with 0 and takes the other side at each cone, whose child there is the first
+/// over a limit, and what of that child is. None where the first hundred fit.
+fn down_to_the_limit(rt: &impl Abort, q: &SymInt) -> Result<Option<(Cone, WideAt)>, Fail> {
+    let mut cone = root(q)?;
+    for depth in 0..100u8 {
+        assert!(rt; cone.n() == 2 && cone.path().len() < 200);
+        match child(&cone, 1, 2, depth % 2) {
+            Ok(next) => cone = next,
+            Err(ConeFail::Wide(at)) => return Ok(Some((cone, at))),
+            Err(ConeFail::OutOfMemory) => return Ok(None),
+        }
+    }
+    Ok(None)
+}
+
+// With the zero matrix the coordinates are Fibonacci numbers. The 91st is the first over 2^62, and the 90th and the 91st are
+// the coordinates of the mediant at depth 89.
+#[test]
+fn a_coordinate_over_its_limit(rt: HostRuntime) -> Result<(), Fail> {
+    let zero = matrix(rt.alloc(), 0, 0, 0)?;
+    let (cone, at) = down_to_the_limit(&rt, &zero)?.ok_or("no limit")?;
+    assert_eq!(rt; cone.path().len(), 89);
+    assert_eq!(rt;
+        generators(&rt, &cone),
+        [
+            1779979416004714189,
+            2880067194370816120,
+            1100087778366101931,
+            1779979416004714189
+        ]
+    );
+    assert_eq!(rt; at.path.len(), 90);
+    assert_eq!(rt;
+        at.entry,
+        WideEntry::Coordinate {
+            generator: 2,
+            place: 2
+        }
+    );
+    assert!(&rt; cone.n() == 2 && cone.path().len() < 200);
+    let at = children_fit(&cone, 1, 2).ok_or("both fit")?;
+    assert_eq!(rt; at.path.len(), 90);
+    assert_eq!(rt; at.path.digit(89), 0);
+    assert_eq!(rt;
+        at.entry,
+        WideEntry::Coordinate {
+            generator: 1,
+            place: 2
+        }
+    );
+    Ok(())
+}
+
 #[test]
 fn orders_of_paths(rt: HostRuntime) {
     let zero = Path::root().child(0);

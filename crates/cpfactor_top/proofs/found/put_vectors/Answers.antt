@@ -1,6 +1,5 @@
 use Rattle.std.proofs.Common.{◌≡◌, ◌∙◌, ◌++◌, ap₂, subst, List, ℕ, length}
-use Rattle.std.specs.List.{flat_map}
-use Rattle.cpfactor_top.specs.Texts.{vector_line}
+use Rattle.cpfactor_top.specs.Texts.{vectors_text}
 use Rattle.cpfactor_top.specs.Endings.{IsPut, outlet}
 use Rattle.cpfactor_top.proofs.Listings.{count_line, vectors_lines}
 use Rattle.cpfactor_top.proofs.Fronts.{put_nothing}
@@ -14,4 +13,4 @@ returns-in-Ok g c =
 
 pub returns-in-Err : goal.returns-in-Err
 returns-in-Err g c =
-    put_nothing (count_line (length c.args.vectors.now) ++ flat_map vector_line c.args.vectors.now) (g.K.Sink.told c.args.sink.now) (g.K.Sink.faults c.args.sink.now) (g.K.Sink.faults c.args.sink.now)
+    put_nothing (vectors_text c.args.vectors.now) (g.K.Sink.told c.args.sink.now) (g.K.Sink.faults c.args.sink.now) (g.K.Sink.faults c.args.sink.now)

@@ -5,7 +5,7 @@ use Rattle.cpfactor_top.specs.declared.ended.Cause.TheVariants.{Overflow}
 use Rattle.cpfactor_top.specs.declared.ended.Owed.TheVariants.{Clear}
 use Rattle.cpfactor_top.specs.Ending.{ending}
 use Rattle.cpfactor_top.specs.Texts.{owed_text}
-use Rattle.cpfactor_top.specs.Searching.{IsClearText}
+use Rattle.cpfactor_top.specs.Given.{IsClearText}
 use Rattle.cpfactor_top.proofs.Endings.{ends_by_only}
 use Rattle.symmetric_matrix.proofs.Owed.{some_of_err}
 use Rattle.cpfactor_top.proofs.ClearedEntries.{cleared_positive}

@@ -1,6 +1,7 @@
 use Rattle.std.proofs.Common.{◌∙◌, ◌++◌, ap}
 use Rattle.cpfactor_top.specs.declared.line.Word.{Word}
-use Rattle.cpfactor_top.specs.Lines.{separated, word_text}
+use Rattle.matrix_text.specs.Spelling.{separated}
+use Rattle.cpfactor_top.specs.Lines.{word_text}
 use Rattle.cpfactor_top.proofs.LineLemmas.{word_more, words_end}
 use Rattle.cpfactor_top.proofs.line.push_words.Goals as goal
 

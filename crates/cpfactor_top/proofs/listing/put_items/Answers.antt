@@ -1,19 +1,14 @@
-use Rattle.std.proofs.Common.{arith, List, ℕ, []}
-use Rattle.cpfactor_top.proofs.Fronts.{appended-nil, piece_more, piece_failed, pieces_done}
+use Rattle.std.proofs.Common.{arith, sym, List, ℕ, []}
+use Rattle.cp_outside.proofs.PutLaws.{appended-[]}
+use Rattle.cpfactor_top.proofs.Fronts.{piece_more, pieces_stopped, pieces_done}
 use Rattle.cpfactor_top.proofs.listing.put_items.Goals as goal
 
 pub loop-k-init : goal.loop-k-init
-loop-k-init g c = record { written = appended-nil (g.K.Sink.told c.args.sink.now); faults = omega arith }
+loop-k-init g c = record { written = sym (appended-[] (g.K.Sink.told c.args.sink.now)); faults = omega arith }
 
-pub returns-in-Failed : goal.returns-in-Failed
-returns-in-Failed g c = (
-  omega (arith, c.in-Failed.ensures.put.0, c.loop-k.invariant.faults),
-  piece_failed (λ (t : List ℕ). t) (g.L.Listing.lines c.args.list.now) c.loop-k.k [] _ _ _ (omega (arith, c.loop-k-test.true, c.count-k-end.ensures)) c.loop-k.invariant.written c.in-Failed.ensures.put.1,
-)
-
-pub returns-in-OutOfMemory : goal.returns-in-OutOfMemory
-returns-in-OutOfMemory g c =
-    piece_failed (λ (t : List ℕ). t) (g.L.Listing.lines c.args.list.now) c.loop-k.k [] _ _ _ (omega (arith, c.loop-k-test.true, c.count-k-end.ensures)) c.loop-k.invariant.written c.in-OutOfMemory.ensures.put
+pub returns-in_default : goal.returns-in_default
+returns-in_default g c =
+    pieces_stopped (λ (t : List ℕ). t) (g.L.Listing.lines c.args.list.now) c.loop-k.k [] _ _ _ _ _ _ c.put_item.result c.in_default.not-Done (omega (arith, c.loop-k-test.true, c.count-k-end.ensures)) c.loop-k.invariant.written c.loop-k.invariant.faults c.put_item.ensures.put
 
 pub loop-k-preserved : goal.loop-k-preserved
 loop-k-preserved g c = record {

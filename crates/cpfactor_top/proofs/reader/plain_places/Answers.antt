@@ -13,20 +13,20 @@ pub loop-place-init : goal.loop-place-init
 loop-place-init c = record { stands = HasRead-start c.args.row.now (texts c.args.words.now); fits = λ j lt. absurd (omega arith) }
 
 pub overflow_cast-result : goal.overflow_cast-result
-overflow_cast-result c = omega (arith, read_few c.args.row.now (texts c.args.words.now) c.loop-place.place c.requires.named c.requires.few_plain c.requires.few_options (omega (arith, length-map c.args.words.now string_bytes)) c.loop-place.invariant.fits)
+overflow_cast-result c = omega (arith, read_few c.args.row.now (texts c.args.words.now) c.loop-place.place c.requires.named c.requires.few_words (omega (arith, length-map c.args.words.now string_bytes)) c.loop-place.invariant.fits)
 
 pub overflow_add-result : goal.overflow_add-result
-overflow_add-result c = omega (arith, read_few c.args.row.now (texts c.args.words.now) c.loop-place.place c.requires.named c.requires.few_plain c.requires.few_options (omega (arith, length-map c.args.words.now string_bytes)) c.loop-place.invariant.fits)
+overflow_add-result c = omega (arith, read_few c.args.row.now (texts c.args.words.now) c.loop-place.place c.requires.named c.requires.few_words (omega (arith, length-map c.args.words.now string_bytes)) c.loop-place.invariant.fits)
 
 pub returns-then-not-can_read-clause-usage : goal.returns-then-not-can_read-clause-usage
 returns-then-not-can_read-clause-usage c =
     rw (fault_at (plain_of c.args.row.now) (options_of c.args.row.now) (texts c.args.words.now) c.loop-place.place (omega (arith, length-map c.args.words.now string_bytes)) c.loop-place.invariant.fits (sym c.can_read.ensures ∙ c.if-not-can_read.true)) refl
 
 pub overflow_cast-result-then-is_some : goal.overflow_cast-result-then-is_some
-overflow_cast-result-then-is_some c = omega (arith, read_few c.args.row.now (texts c.args.words.now) c.loop-place.place c.requires.named c.requires.few_plain c.requires.few_options (omega (arith, length-map c.args.words.now string_bytes)) c.loop-place.invariant.fits)
+overflow_cast-result-then-is_some c = omega (arith, read_few c.args.row.now (texts c.args.words.now) c.loop-place.place c.requires.named c.requires.few_words (omega (arith, length-map c.args.words.now string_bytes)) c.loop-place.invariant.fits)
 
 pub overflow_add-result-then-is_some : goal.overflow_add-result-then-is_some
-overflow_add-result-then-is_some c = omega (arith, read_few c.args.row.now (texts c.args.words.now) c.loop-place.place c.requires.named c.requires.few_plain c.requires.few_options (omega (arith, length-map c.args.words.now string_bytes)) c.loop-place.invariant.fits)
+overflow_add-result-then-is_some c = omega (arith, read_few c.args.row.now (texts c.args.words.now) c.loop-place.place c.requires.named c.requires.few_words (omega (arith, length-map c.args.words.now string_bytes)) c.loop-place.invariant.fits)
 
 pub returns-then-is_some-clause-usage : goal.returns-then-is_some-clause-usage
 returns-then-is_some-clause-usage c =

@@ -1,8 +1,11 @@
+use Rattle.std.specs.Prelude.{pos, ◌≤ℤ◌, nat_abs}
+use Rattle.matrix_text.specs.Clearing.{IsCleared}
 use Rattle.std.proofs.Common.{◌≡◌, subst, inl, rules, to_z, of_z}
 use Rattle.std.proofs.lemmas.Int.{to_z-of_z}
 use Rattle.std.specs.Int.{w128}
 use Rattle.cpfactor_top.specs.Endings.{EndsBy, outlet}
-use Rattle.cpfactor_top.specs.Searching.{IsClearText, IsFound, IsSearched}
+use Rattle.cpfactor_top.specs.Given.{IsClearText}
+use Rattle.cpfactor_top.specs.Searching.{IsFound, IsSearched}
 use Rattle.cpfactor_top.proofs.Endings.{ends_by_follows}
 use Rattle.cpfactor_top.proofs.AnswerLaws.{found_follows}
 use Rattle.cpfactor_top.proofs.searching.search_matrix.Goals as goal
@@ -10,8 +13,10 @@ use Rattle.cpfactor_top.proofs.searching.search_matrix.Goals as goal
 pub returns-in-Ok : goal.returns-in-Ok
 returns-in-Ok g c =
     let d : to_z w128 (of_z w128 c.in-Ok.d) ≡ c.in-Ok.d = search (rules, to_z-of_z) in
+    let positive : pos 1 ≤ℤ c.in-Ok.d = c.in-Ok.ensures.positive in
+    let cleared : IsCleared c.args.a.now c.in-Ok.s (nat_abs c.in-Ok.d) = c.in-Ok.ensures.cleared in
     ends_by_follows (IsFound c.args.mode c.args.depth c.in-Ok.s c.in-Ok.d) (IsSearched c.args.mode c.args.depth c.args.a.now) _
-    (found_follows c.args.mode c.args.depth c.args.a.now c.in-Ok.s c.in-Ok.d c.in-Ok.ensures.clearable) _
+    (found_follows c.args.mode c.args.depth c.args.a.now c.in-Ok.s c.in-Ok.d c.in-Ok.ensures.clearable positive cleared) _
     (subst (λ k. EndsBy (IsFound c.args.mode c.args.depth c.in-Ok.s c.in-Ok.d) (outlet (g.K.Sink.told k) (g.K.Sink.told c.search_whole.new.sink) (g.K.Sink.faults k) (g.K.Sink.faults c.search_whole.new.sink)) c.search_whole.result) c.in-Ok.ensures.silent
     (subst (λ d. EndsBy (IsFound c.args.mode c.args.depth c.in-Ok.s d) (outlet (g.K.Sink.told c.clear_or_refuse.new.sink) (g.K.Sink.told c.search_whole.new.sink) (g.K.Sink.faults c.clear_or_refuse.new.sink) (g.K.Sink.faults c.search_whole.new.sink)) c.search_whole.result) d c.search_whole.ensures))
 

@@ -1,4 +1,4 @@
-use Rattle.std.proofs.Common.{◌≡◌, ◌∙◌, ◌<◌, ℕ, ℤ, ap, sym, subst, refl, nat_abs}
+use Rattle.std.proofs.Common.{◌≡◌, ◌∙◌, ◌<◌, ℕ, ℤ, ap, sym, subst, refl, nat_abs, None, inl, inr}
 use Rattle.std.proofs.lemmas.Int.{to_z-of_z}
 use Rattle.std.specs.Int.{w128}
 use Rattle.exact_forms.specs.Rational.{ratio}
@@ -14,7 +14,7 @@ use Rattle.cpfactor_top.specs.StartCone.{start_terms, IsStartFactorization, Lies
 use Rattle.cpfactor_top.specs.Solving.{IsSolved, IsVerdict}
 use Rattle.cpfactor_top.proofs.Endings.{ends_by_only}
 use Rattle.cpfactor_top.proofs.StartTerms.{start_factorization, start_cone, start_outside}
-use Rattle.cpfactor_top.proofs.ClearedEntries.{cleared_entry, is_weighable}
+use Rattle.cpfactor_top.proofs.ClearedEntries.{cleared_entry, cleared_weights}
 use Rattle.cpfactor_top.proofs.solving.solve_weighed.Goals as goal
 
 pub returns-in-Ok-Some : goal.returns-in-Ok-Some
@@ -34,9 +34,10 @@ returns-in-Ok-Some g c =
       factorization = factored;
       written = ap (λ (n : ℕ). factorization_text n c.in-Ok-Some.terms) c.n.ensures.value;
     } in
+    let weights = cleared_weights c.args.a.now c.args.s.now c.args.d None c.requires.clearable c.requires.weighable in
     ends_by_only (IsSolved c.args.a.now) (ending Fine) (factorization_text c.n.result c.in-Ok-Some.terms)
     _
-    c.put_factorization.result (record { due = (refl, (is_weighable c.args.a.now c.args.s.now c.args.d c.requires.clearable c.requires.weighable, inside)); text_of = verdict }) c.put_factorization.ensures
+    c.put_factorization.result (inr (weights.0, inr (weights.1, inr ((inside, refl), verdict)))) c.put_factorization.ensures
 
 pub returns-in-Ok-None : goal.returns-in-Ok-None
 returns-in-Ok-None g c =
@@ -44,6 +45,7 @@ returns-in-Ok-None g c =
     let is : (i j : ℕ) → i < c.args.s.now.size → j < c.args.s.now.size → rational_entry c.args.a.now i j ≡ ratio (entry c.args.s.now i j) (nat_abs c.args.d) = λ i j li lj. cleared_entry c.args.a.now c.args.s.now (nat_abs c.args.d) c.requires.cleared i j in
     let out : LiesOutside c.args.a.now.size (rational_entry c.args.a.now) =
     subst (λ (n : ℕ). LiesOutside n (rational_entry c.args.a.now)) c.requires.cleared.size (start_outside c.args.s.now (nat_abs c.args.d) c.requires.cleared.denominator.positive (rational_entry c.args.a.now) is found) in
+    let weights = cleared_weights c.args.a.now c.args.s.now c.args.d None c.requires.clearable c.requires.weighable in
     ends_by_only (IsSolved c.args.a.now) (ending (NotYet Outside)) outside_text
     _
-    c.refuse.result (record { due = (refl, (is_weighable c.args.a.now c.args.s.now c.args.d c.requires.clearable c.requires.weighable, out)); text_of = refl }) c.refuse.ensures
+    c.refuse.result (inr (weights.0, inr (weights.1, inl ((out, refl), refl)))) c.refuse.ensures

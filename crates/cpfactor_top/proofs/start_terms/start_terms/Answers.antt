@@ -1,5 +1,5 @@
 use Rattle.std.proofs.Common.{◌≡◌, [], ℕ, ℤ, List, pos, ◌<◌, nat_abs, sym, ap, subst, ◌∙◌, arith, length, to_z, of_z, get_or, rules}
-use Rattle.std.proofs.lemmas.Int.{to_z-of_z}
+use Rattle.std.proofs.lemmas.Int.{ints, to_z-of_z}
 use Rattle.std.proofs.lemmas.Option.{get_or_from_slice_get}
 use Rattle.std.specs.Int.{w128}
 use Rattle.exact_forms.specs.Factors.{WeightedVector}
@@ -8,7 +8,7 @@ use Rattle.symmetric_matrix.specs.Symmetric.{entry}
 use Rattle.symmetric_matrix.specs.StartVectors.{start_runs, start_list, run_vector}
 use Rattle.symmetric_matrix.specs.StartWeights.{start_weight}
 use Rattle.cpfactor_top.specs.StartCone.{start_terms}
-use Rattle.cpfactor_top.proofs.StartTerms.{run_at, IsMade, none_made, more_made, all_made, next_is_after, negative_at, under, not_under, length-list, length-weights, weight_at, vector_at}
+use Rattle.cpfactor_top.proofs.StartTerms.{run_at, IsMade, none_made, more_made, all_made, next_is_after, negative_at, length-list, length-weights, weight_at, vector_at}
 use Rattle.cpfactor_top.proofs.start_terms.start_terms.Goals as goal
 
 pub loop-k-init : goal.loop-k-init
@@ -22,7 +22,7 @@ returns-then-weight-lt0 c =
     let fits : to_z w128 (of_z w128 (get_or c.args.weights.now c.loop-k.k (pos 0))) ≡ get_or c.args.weights.now c.loop-k.k (pos 0) = search (rules, to_z-of_z) in
     let is : to_z w128 (of_z w128 (get_or c.args.weights.now c.loop-k.k (pos 0))) ≡ start_weight s.size (entry s) (run_at s.size c.loop-k.k) =
     fits ∙ ap (λ (ws : List ℤ). get_or ws c.loop-k.k (pos 0)) c.requires.weights ∙ weight_at s.size (entry s) c.loop-k.k (pos 0) inside in
-    negative_at s c.loop-k.k (to_z w128 (of_z w128 (get_or c.args.weights.now c.loop-k.k (pos 0)))) inside is (under (to_z w128 (of_z w128 (get_or c.args.weights.now c.loop-k.k (pos 0)))) c.if-weight-lt0.true)
+    negative_at s c.loop-k.k (to_z w128 (of_z w128 (get_or c.args.weights.now c.loop-k.k (pos 0)))) inside is (let h = c.if-weight-lt0.true in grind (arith, ints))
 
 pub at-requires : goal.at-requires
 at-requires c =
@@ -53,7 +53,7 @@ loop-k-preserved c =
     let is : to_z w128 (of_z w128 (get_or c.args.weights.now c.loop-k.k (pos 0))) ≡ start_weight s.size (entry s) (run_at s.size c.loop-k.k) =
     fits ∙ ap (λ (ws : List ℤ). get_or ws c.loop-k.k (pos 0)) c.requires.weights ∙ weight_at s.size (entry s) c.loop-k.k (pos 0) inside in
     more_made s (nat_abs (to_z w128 (of_z w128 c.args.d))) c.loop-k.k (to_z w128 (of_z w128 (get_or c.args.weights.now c.loop-k.k (pos 0)))) c.at.result.now c.loop-k.terms c.push_positive.new.terms
-    inside c.loop-k.invariant is vector (not_under (to_z w128 (of_z w128 (get_or c.args.weights.now c.loop-k.k (pos 0)))) c.if-weight-lt0.false) c.in_ok-push_positive.ensures
+    inside c.loop-k.invariant is vector (let h = c.if-weight-lt0.false in grind (arith, ints)) c.in_ok-push_positive.ensures
 
 pub returns : goal.returns
 returns c =

@@ -1,15 +1,8 @@
-use Rattle.std.proofs.Common.{arith, refl}
-use Rattle.cpfactor_top.specs.Reading.{is_option}
 use Rattle.std.proofs.lemmas.Result.{err_from_is_err_and}
 use Rattle.cpfactor_top.specs.Commands.{copositive}
 use Rattle.cpfactor_top.specs.Requests.{texts}
-use Rattle.cpfactor_top.proofs.Readers.{argument_text}
 use Rattle.cpfactor_top.proofs.Readings.{read_as-usage, read_as-request}
 use Rattle.cpfactor_top.proofs.words.copositive.Goals as goal
-
-pub plain_places-requires-clause-named : goal.plain_places-requires-clause-named
-unfolding is_option
-plain_places-requires-clause-named c = refl
 
 pub returns-in_err-file-clause-usage : goal.returns-in_err-file-clause-usage
 returns-in_err-file-clause-usage c =
@@ -17,6 +10,4 @@ returns-in_err-file-clause-usage c =
     rw (p.1, p.2) (read_as-usage copositive (texts c.args.words.now) c.in_err-file.field-0.0.position c.in_err-file.ensures.usage)
 
 pub returns-clause-command : goal.returns-clause-command
-returns-clause-command c =
-    let file = argument_text _ c.args.words.now c.in_ok-file.field-0 0 c.index-words-file.result c.in_ok-file.ensures.read (omega arith) c.index-words-file.is in
-    rw (c.depth.ensures.value, c.as_str.ensures.value, file) (read_as-request copositive (texts c.args.words.now) c.in_ok-file.ensures.read.no_fault)
+returns-clause-command c = rw (c.in_ok-file.ensures.depth, c.in_ok-file.ensures.file) (read_as-request copositive (texts c.args.words.now) c.in_ok-file.ensures.read)

@@ -1,8 +1,9 @@
-use Rattle.std.proofs.Common.{◌≡◌, ◌∙◌, sym, ap, arith, rules, ℤ, to_z, of_z}
+use Rattle.std.proofs.Common.{◌≡◌, ◌∙◌, sym, ap, refl, inl, inr, arith, rules, ℤ, to_z, of_z}
 use Rattle.std.proofs.lemmas.Int.{to_z-of_z}
 use mir.Syntax.{w128}
 use mir.Val.{SFits}
 use Rattle.exact_forms.specs.Rational.{whole}
+use Rattle.exact_lp.proofs.OneAnswer.{one_answer}
 use Rattle.exact_lp.proofs.Ruled.{ruled}
 use Rattle.exact_lp.proofs.Sound.{sound, leaving_rows, leaving_rows_as}
 use Rattle.exact_lp.proofs.SquareLists.{start_is, divisor, placed_as}
@@ -41,3 +42,11 @@ pub place_on-requires-clause-leaves : goal.place_on-requires-clause-leaves
 place_on-requires-clause-leaves c =
     leaving_rows_as c.in-Ok.tableau _ c.len-vectors_len.result _ c.whole.result _ c.in-Ok.ensures c.len-vectors_len.ensures.value (c.whole.ensures ∙ whole_is c.args.d (search rules))
     (leaving_rows c.args.vectors.now c.args.s.now c.args.d c.n-n.ensures.matrix.positive c.requires.one_length c.requires.spanning)
+
+pub returns-in-Ok-clause-due : goal.returns-in-Ok-clause-due
+returns-in-Ok-clause-due c = λ a A.
+    one_answer _ c.args.budget c.place_on.result a
+    (placed_as c.in-Ok.tableau _ c.len-vectors_len.result _ c.whole.result _ c.args.budget c.place_on.result c.in-Ok.ensures c.len-vectors_len.ensures.value (c.whole.ensures ∙ whole_is c.args.d (search rules)) c.place_on.ensures) A
+
+pub returns-in-Err-clause-due : goal.returns-in-Err-clause-due
+returns-in-Err-clause-due c = λ a A. inr (inl refl)

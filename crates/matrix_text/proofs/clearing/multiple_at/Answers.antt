@@ -3,7 +3,8 @@ use Rattle.std.specs.Int.{w128}
 use Rattle.std.proofs.lemmas.Int.{to_z-of_z}
 use Rattle.commutative_ring.specs.Gcd.{gcd_of}
 use Rattle.exact_forms.proofs.Rational.{den_positive}
-use Rattle.matrix_text.proofs.Clearings.{gcd_some, at_least_one}
+use Rattle.exact_forms.proofs.RationalOrder.{at_least_one}
+use Rattle.matrix_text.proofs.Clearings.{gcd_some}
 use Rattle.matrix_text.proofs.clearing.multiple_at.Goals as goal
 
 pub part_of-factor-requires-clause-by : goal.part_of-factor-requires-clause-by

@@ -2,7 +2,8 @@ use Rattle.std.proofs.Common.{◌≡◌, ◌∙◌, ◌-◌, sym, subst, arith, 
 use Rattle.symmetric_matrix.specs.Owed.{answer}
 use Rattle.exact_linear.specs.Tables.{rows_of}
 use Rattle.exact_linear.specs.Exchange.{entry_is_owed, bring_ops, brought_in, first_ops}
-use Rattle.exact_linear.proofs.BringIn.{so_far_none, so_far_more, so_far_refused, so_far_rows}
+use Rattle.exact_linear.proofs.Results.{if_err_holds}
+use Rattle.exact_linear.proofs.BringIn.{so_far_none, so_far_more, so_far_refused, so_far_stopped, so_far_rows}
 use Rattle.exact_linear.proofs.tableau.Tableau.bring_in_first.Goals as goal
 
 pub loop-k-init : goal.loop-k-init
@@ -32,4 +33,14 @@ loop-k-preserved c =
     let column : (c.rows-rows.result + c.loop-k.k + 1) - 1 ≡ rows_of c.args.self.now + c.loop-k.k = (let r = c.rows-rows.ensures.value in omega arith) in
     so_far_more c.args.self.now c.loop-k.self c.bring_in.new.self c.loop-k.k c.loop-k.invariant
     (subst (λ (n : ℕ). answer entry_is_owed (bring_ops c.loop-k.self n) (tt {0}) ≡ Ok (tt {0})) column (sym c.in_ok-bring_in.ensures.refused))
-    (subst (λ (n : ℕ). c.bring_in.new.self ≡ brought_in c.loop-k.self n) column c.in_ok-bring_in.ensures.made)
+    (subst (λ (n : ℕ). c.bring_in.new.self ≡ brought_in c.loop-k.self n) column c.in_ok-bring_in.ensures.made) c.bring_in.ensures.coordinates
+
+pub returns-in_err-bring_in-clause-stopped : goal.returns-in_err-bring_in-clause-stopped
+returns-in_err-bring_in-clause-stopped c =
+    let column : (c.rows-rows.result + c.loop-k.k + 1) - 1 ≡ rows_of c.args.self.now + c.loop-k.k = (let r = c.rows-rows.ensures.value in omega arith) in
+    if_err_holds c.from_residual.result
+    (so_far_stopped c.args.self.now c.loop-k.self c.bring_in.new.self c.loop-k.k c.args.count c.in_err-bring_in.field-0.0 c.loop-k.invariant c.loop-k-test.true c.in_err-bring_in.ensures.kept
+    (subst (λ (n : ℕ). answer entry_is_owed (bring_ops c.loop-k.self n) (tt {0}) ≡ Err c.in_err-bring_in.field-0.0) column (sym c.bring_in.ensures.refused ∙ c.in_err-bring_in.was)))
+
+pub returns-in_err-bring_in-clause-coordinates : goal.returns-in_err-bring_in-clause-coordinates
+returns-in_err-bring_in-clause-coordinates c = λ A h. c.bring_in.ensures.coordinates A (c.loop-k.invariant.coordinates A h)

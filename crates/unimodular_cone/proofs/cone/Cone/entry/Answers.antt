@@ -1,27 +1,16 @@
 use Rattle.std.specs.Prelude.{◌≡◌, ℕ, pos, slice_index_or}
-use Rattle.std.proofs.Common.{arith, subst, sym, ◌∙◌, ap}
-use Rattle.unimodular_cone.specs.ConeFields.{shown_of}
+use Rattle.std.proofs.Common.{arith, subst, ◌∙◌, ap}
 use Rattle.unimodular_cone.specs.Shown.{ShownCone, shown_gram, IsWithinLimits}
-use Rattle.unimodular_cone.proofs.Fields.{gram_shown}
+use Rattle.unimodular_cone.proofs.Fields.{gram_placed}
 use Rattle.unimodular_cone.proofs.PartSlack.{read_back}
-use Rattle.unimodular_cone.proofs.ShownLaws.{gram_within, shown_gram_mirror}
+use Rattle.unimodular_cone.proofs.ShownLaws.{gram_within}
 use Rattle.unimodular_cone.proofs.cone.Cone.entry.Goals as goal
-
-pub returns-then-row-column : goal.returns-then-row-column
-returns-then-row-column c =
-    let size : c.self.inside.n ≡ c.args.self.now.size = ap (λ (s : ShownCone). s.size) c.self.view_is in
-    let is : slice_index_or c.self.inside.gram c.place_of.result (pos 0) ≡ shown_gram c.args.self.now c.args.row c.args.column =
-    ap (λ (w : ℕ). slice_index_or c.self.inside.gram w (pos 0)) c.place_of.ensures.place
-    ∙ sym (gram_shown c.self.inside c.args.column c.args.row (omega arith) (omega arith))
-    ∙ shown_gram_mirror (shown_of c.self.inside) c.args.column c.args.row
-    ∙ ap (λ (s : ShownCone). shown_gram s c.args.row c.args.column) c.self.view_is in
-    read_back _ _ is (gram_within c.args.self.now c.args.row c.args.column (subst IsWithinLimits c.self.view_is c.self.invariant.within) c.requires.row_in_range c.requires.column_in_range)
 
 pub returns : goal.returns
 returns c =
     let size : c.self.inside.n ≡ c.args.self.now.size = ap (λ (s : ShownCone). s.size) c.self.view_is in
-    let is : slice_index_or c.self.inside.gram c.place_of-2.result (pos 0) ≡ shown_gram c.args.self.now c.args.row c.args.column =
-    ap (λ (w : ℕ). slice_index_or c.self.inside.gram w (pos 0)) c.place_of-2.ensures.place
-    ∙ sym (gram_shown c.self.inside c.args.row c.args.column (omega arith) (omega arith))
+    let is : slice_index_or c.self.inside.gram c.place_of.result (pos 0) ≡ shown_gram c.args.self.now c.args.row c.args.column =
+    ap (λ (w : ℕ). slice_index_or c.self.inside.gram w (pos 0)) c.place_of.ensures.place
+    ∙ gram_placed c.self.inside c.args.row c.args.column (omega arith) (omega arith)
     ∙ ap (λ (s : ShownCone). shown_gram s c.args.row c.args.column) c.self.view_is in
     read_back _ _ is (gram_within c.args.self.now c.args.row c.args.column (subst IsWithinLimits c.self.view_is c.self.invariant.within) c.requires.row_in_range c.requires.column_in_range)
