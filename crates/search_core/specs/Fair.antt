@@ -23,10 +23,11 @@
 --     IsFinalWord                the least of the start word and the codes of the judged cones
 --     IsFair m n q d list final  one judgement for the root and for each child of a Split, and for no other path
 --     HasAllThatTells            a part of a list has the judgements that an answer looks at
+--     IsTold m word j            an answer may look at j: it is low, an end, or its least value is at most the word's bound (Least)
 --     IsUntold m word j          no answer looks at j, where the final word is at most this
 --     IsKeptOrUntold             j is kept, or no answer looks at it
 --     IsFairPart                 the judgements of a fair list that an answer looks at, and maybe others of it
-use Rattle.std.specs.Prelude.{ℕ, zero, suc, ℤ, pos, negsuc, ◌<ℤ◌, ◌<◌, ◌≤◌, ◌+◌, ◌-◌, ◌^◌, ◌≡◌, ◌≢◌, ◌⊎◌, Bool, List, [], ◌∷◌, ◌++◌, length, min, max, Some}
+use Rattle.std.specs.Prelude.{ℕ, zero, suc, ℤ, pos, negsuc, ◌<ℤ◌, ◌≤ℤ◌, ◌<◌, ◌≤◌, ◌+◌, ◌-◌, ◌^◌, ◌≡◌, ◌≢◌, ◌⊎◌, Bool, List, [], ◌∷◌, ◌++◌, length, min, max, Some}
 use Rattle.std.specs.List.{Contains}
 use Rattle.std.specs.Int.{int_min}
 use Rattle.unimodular_cone.specs.Paths.{Path}
@@ -177,6 +178,10 @@ pub record HasAllThatTells (m : Mode) (final : ℕ) (all part : List Judged) : T
   pub low : (j : Judged) → Contains all j → IsLowFate j.fate → Contains part j
   pub ends : (j : Judged) → Contains all j → IsEndFate j.fate → Contains part j
   pub attaining : m ≡ Least → 256 ≤ final → (j : Judged) → Contains all j → j.least ≡ bound_under Least final → Contains part j
+
+-- an answer may look at j, which was made under this word
+abbrev pub IsTold : Mode → ℕ → Judged → Type 0
+IsTold m word j = IsLowFate j.fate ⊎ (IsEndFate j.fate ⊎ ((m ≡ Least) × (j.least ≤ℤ bound_under Least word)))
 
 -- no answer looks at j, which was made under this word or a greater one
 pub record IsUntold (m : Mode) (word : ℕ) (j : Judged) : Type 0 where

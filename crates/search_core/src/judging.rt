@@ -5,7 +5,7 @@ ghost use Rattle.unimodular_cone.specs.Answer.{IsLeastDiagonal};
 ghost use Rattle.unimodular_cone.specs.Shown.{shown_gram, IsWithinLimits};
 ghost use Rattle.search_core.specs.Judging.{shown_code, IsLowShown, IsFirstLowShown, IsUndecidedShown, IsShownFate, IsJudgementOf};
 ghost use Rattle.std.specs.Bool.{MatchBool};
-ghost use Rattle.search_core.specs.Fair.{IsUntold, IsKeptOrUntold};
+ghost use Rattle.search_core.specs.Fair.{IsTold, IsUntold, IsKeptOrUntold};
 
 use crate::fate::{Fate, Judged};
 use crate::words::{bound_under, code_at, is_low_value};
@@ -138,7 +138,7 @@ pub fn lowering_judgement<C: ConeRead>(mode: Mode, c: &C, limit: u8, word: &mut 
 /// Whether an answer may look at a judgement that was made under this word: it is low, it is an end of the tree, or its
 /// least value is at most the word's bound.
 pub fn tells(mode: Mode, j: &Judged, word: u64) -> bool
-    ensures { MatchBool result (Unit {0}) (IsUntold mode word j.now) }
+    ensures { MatchBool result (IsTold mode word j.now) (IsUntold mode word j.now) }
 {
     match j.fate {
         Fate::Low { .. } | Fate::AtLimit { .. } | Fate::Wide { .. } => true,
@@ -152,6 +152,7 @@ pub fn tells(mode: Mode, j: &Judged, word: u64) -> bool
 /// Keeps a judgement that was made under this word, if an answer may look at it. After a refusal the list is as before.
 pub fn keep(judged: &mut Vec<Judged>, mode: Mode, j: Judged, word: u64) -> Result<(), AllocError>
     ensures kept { OnOk result (IsKeptOrUntold mode word j judged.old.items judged.new.items) }
+    ensures few { OnOk result ((¬ IsTold mode word j) → judged.new.items ≡ judged.old.items) }
     ensures err { OnErr result (judged.new.items ≡ judged.old.items) }
 {
     if tells(mode, &j, word) {
