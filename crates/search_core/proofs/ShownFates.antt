@@ -3,7 +3,7 @@ use Rattle.std.specs.Prelude.{◌≡◌, ◌≢◌, ℕ, zero, suc, ◌<◌, ◌
 use Rattle.std.proofs.Common.{arith, sym, ◌∙◌, ap, ap₂, refl, inl, inr, subst}
 use Rattle.commutative_ring.proofs.Expand.{linear}
 use Rattle.exact_forms.specs.Sums.{sum_to}
-use Rattle.exact_forms.specs.Slacks.{slack, shortfall, IsClosed}
+use Rattle.exact_forms.specs.Slacks.{shortfall, IsClosed}
 use Rattle.exact_forms.proofs.Sums.{sum_to_none}
 use Rattle.exact_forms.proofs.Slacks.{same_or_not, replaced_here, replaced_other, shortfall_of_nonneg, slack_is_diagonal_less, slack_same}
 use Rattle.unimodular_cone.specs.declared.Mode.{Mode}
@@ -11,7 +11,7 @@ use Rattle.unimodular_cone.specs.declared.Mode.TheVariants.{Sign, Least}
 use Rattle.unimodular_cone.specs.declared.WideAt.{WideAt}
 use Rattle.unimodular_cone.specs.Paths.{Path}
 use Rattle.unimodular_cone.specs.Cones.{Matrix, Generators, gram, value, child, child_gram, cone_at, pair_of, IsPair, Fits, IsFirstOver, FitsLimits}
-use Rattle.unimodular_cone.specs.Tree.{CanSplit, IsClosedAt, IsLowValue, IsLow, IsFirstLowAt, IsFirstOverBelow}
+use Rattle.unimodular_cone.specs.Tree.{CanSplit, IsLowValue, IsLow, IsFirstLowAt, IsFirstOverBelow}
 use Rattle.unimodular_cone.specs.Answer.{IsLeastDiagonal}
 use Rattle.unimodular_cone.specs.Shown.{ShownCone, shown_gram, shown_generators, IsConeOf, IsConeAt, NamesPair, FitsOnBothSides, FitsOnSide, IsFirstWideBelow}
 use Rattle.unimodular_cone.proofs.Pairs.{pair_is, pair_same, some_pair}
@@ -22,7 +22,7 @@ use Rattle.unimodular_cone.proofs.Unique.{both_le}
 use Rattle.unimodular_cone.proofs.Minimum.{not_low_Sign, not_low_Least}
 use Rattle.search_core.specs.Fair.{Fate, Closed, Split, Low, Dropped, AtLimit, Wide, least_upto, least_value, code, code_of, bound_under, IsUndecided, IsSplitAt, IsFate}
 use Rattle.search_core.specs.Scans.{SplitsShown}
-use Rattle.unimodular_cone.proofs.ShownAt.{no_pair_at, child_same, child_gram_same}
+use Rattle.unimodular_cone.proofs.ShownAt.{pair_at, no_pair_at, child_same, child_gram_same}
 use Rattle.search_core.specs.Judging.{shown_least, shown_code, IsLowShown, IsFirstLowShown, IsUndecidedShown, IsShownFate}
 use Rattle.search_core.proofs.LeastValues.{least_upto_le, least_upto_attained, code_not_low, bound_within}
 
@@ -182,19 +182,6 @@ module _ (n : ℕ) (q : Matrix) (path : Path) (c : ShownCone) (h : IsConeAt n q 
   agrees : SameBelow n (shown_generators c) (cone_at n q path) (shown_gram c) (gram n q (cone_at n q path))
   agrees = record { generators = h.cone.generators; gram_is = h.cone.gram_is }
 
-  pub closed_at_path : (b : ℤ) → IsClosed c.size (shown_gram c) b → IsClosedAt n q path b
-  closed_at_path b closed i l = subst (λ (z : ℤ). b ≤ℤ z) (ap (λ (k : ℕ). slack k (shown_gram c) i) h.cone.size ∙ slack_same n (shown_gram c) (gram n q (cone_at n q path)) i l (λ j lj. h.cone.gram_is i j l lj)) (closed i (rw h.cone.size l))
-
-  pub closed_as_shown : (b : ℤ) → IsClosedAt n q path b → IsClosed c.size (shown_gram c) b
-  closed_as_shown b closed i l =
-      let li : i < n = rw (← h.cone.size) l in
-      subst (λ (z : ℤ). b ≤ℤ z) (sym (ap (λ (k : ℕ). slack k (shown_gram c) i) h.cone.size ∙ slack_same n (shown_gram c) (gram n q (cone_at n q path)) i li (λ j lj. h.cone.gram_is i j li lj))) (closed i li)
-
-  shown_pair : (i j : ℕ) → IsPair c.size (shown_gram c) i j → pair_of n (gram n q (cone_at n q path)) ≡ Some (i, j)
-  shown_pair i j p =
-      let s : IsPair n (shown_gram c) i j = subst (λ (k : ℕ). IsPair k (shown_gram c) i j) h.cone.size p in
-      sym (pair_same n (shown_gram c) (gram n q (cone_at n q path)) (λ k l lt ll. h.cone.gram_is k l (omega arith) ll)) ∙ pair_is n (shown_gram c) i j s
-
   on_side : (i j : ℕ) → i < n → j < n → Fits n q (child (cone_at n q path) i j) → FitsLimits n (child (shown_generators c) i j) (child_gram (shown_gram c) i j)
   on_side i j li lj f = fits_same n _ _ _ _ (same_back (children_same n q _ _ _ i j agrees li lj)) f
 
@@ -209,7 +196,7 @@ module _ (n : ℕ) (q : Matrix) (path : Path) (c : ShownCone) (h : IsConeAt n q 
 
       by : (i j : ℕ) → IsPair c.size (shown_gram c) i j → FitsOnBothSides c i j
       by i j p =
-          let u : (can.i ≡ i) × (can.j ≡ j) = some_pair (sym can.pair ∙ shown_pair i j p) in
+          let u : (can.i ≡ i) × (can.j ≡ j) = some_pair (sym can.pair ∙ pair_at n q path c h i j p) in
           let lj : j < n = rw (← h.cone.size) p.range in
           let o : i < j = p.order in
           let ff : Fits n q (child (cone_at n q path) i j) = subst (λ (k : ℕ). Fits n q (child (cone_at n q path) i k)) u.1 (subst (λ (k : ℕ). Fits n q (child (cone_at n q path) k can.j)) u.0 can.first_fits) in
