@@ -4,13 +4,8 @@ use Rattle.std.proofs.Common.{arith, ◌∙◌, ap, refl, subst, lt→ltb}
 use Rattle.std.specs.Int.{IsGcd}
 use Rattle.std.proofs.lemmas.Nat.Gcd.{same_from_IsGcd}
 use native.Mathlib.Nat.{pos_of_dvd_of_pos, div-mul_cancel}
-use Rattle.commutative_ring.specs.Gcd.{gcd_of}
+use Rattle.commutative_ring.specs.Gcd.{gcd_of, divided}
 use Rattle.commutative_ring.proofs.Gcd.{gcd_of_is, gcd_of_scaled}
-
--- z over g, where g divides it
-abbrev pub divided : ℤ → ℕ → ℤ
-divided (pos a) g = pos (a / g)
-divided (negsuc a) g = neg_ℤ (pos (suc a / g))
 
 pub nat_abs-divided : (z : ℤ) (g : ℕ) → nat_abs (divided z g) ≡ nat_abs z / g
 nat_abs-divided (pos a) g = refl

@@ -133,12 +133,12 @@ says_same (i ∷ m) (j ∷ l) = by_test (eqb i j) (λ t. eqb→eq i j t) (says_s
     by_test true e h = lift (mono_order m l) (e tt) h
     by_test false e h = unlike (leb i j)
 
-abbrev pub value : {A : Type 0} → CommutativeRing A → (ℕ → A) → Expr → A
-value R ρ (var i) = ρ i
-value R ρ (num c) = R.of_int c
-value R ρ (e ⊕ f) = R.add (value R ρ e) (value R ρ f)
-value R ρ (e ⊗ f) = R.mul (value R ρ e) (value R ρ f)
-value R ρ (neg e) = R.neg (value R ρ e)
+abbrev pub expr_value : {A : Type 0} → CommutativeRing A → (ℕ → A) → Expr → A
+expr_value R ρ (var i) = ρ i
+expr_value R ρ (num c) = R.of_int c
+expr_value R ρ (e ⊕ f) = R.add (expr_value R ρ e) (expr_value R ρ f)
+expr_value R ρ (e ⊗ f) = R.mul (expr_value R ρ e) (expr_value R ρ f)
+expr_value R ρ (neg e) = R.neg (expr_value R ρ e)
 
 -- the value at a list, by place
 abbrev pub at : {A : Type 0} → CommutativeRing A → List A → ℕ → A
@@ -244,7 +244,7 @@ module _ {A : Type 0} (R : CommutativeRing A) where
       ∙ ap (λ w. R.add (R.mul (R.mul (R.of_int c) (mono_value ρ m)) (poly_value ρ q)) w) (poly_mul-value ρ p q)
       ∙ sym (R.add_mul (R.mul (R.of_int c) (mono_value ρ m)) (poly_value ρ p) (poly_value ρ q))
 
-  normal-value : (ρ : ℕ → A) (e : Expr) → poly_value ρ (normal e) ≡ value R ρ e
+  normal-value : (ρ : ℕ → A) (e : Expr) → poly_value ρ (normal e) ≡ expr_value R ρ e
   normal-value ρ (var i) = add_zero _ ∙ R.one_mul _ ∙ mul_one (ρ i)
   normal-value ρ (num c) = term_unless_zero-value ρ c [] none ∙ add_zero _ ∙ mul_one (R.of_int c)
   normal-value ρ (e ⊕ f) = poly_add-value ρ (normal e) (normal f) ∙ ap₂ R.add (normal-value ρ e) (normal-value ρ f)
@@ -254,11 +254,11 @@ module _ {A : Type 0} (R : CommutativeRing A) where
       ∙ sym (R.neg_is_mul (poly_value ρ (normal e))) ∙ ap R.neg (normal-value ρ e)
 
   -- two expressions with one normal form are equal at every values of their variables
-  pub ring_in : (xs : List A) (e f : Expr) → normal e ≡ normal f → value R (at R xs) e ≡ value R (at R xs) f
+  pub ring_in : (xs : List A) (e f : Expr) → normal e ≡ normal f → expr_value R (at R xs) e ≡ expr_value R (at R xs) f
   ring_in xs e f same_form = sym (normal-value (at R xs) e) ∙ ap (poly_value (at R xs)) same_form ∙ normal-value (at R xs) f
 
 -- the same over ℤ
-pub ring : (xs : List ℤ) (e f : Expr) → normal e ≡ normal f → value int_ring (at int_ring xs) e ≡ value int_ring (at int_ring xs) f
+pub ring : (xs : List ℤ) (e f : Expr) → normal e ≡ normal f → expr_value int_ring (at int_ring xs) e ≡ expr_value int_ring (at int_ring xs) f
 ring xs e f same_form = ring_in int_ring xs e f same_form
 
 abbrev pub v0 : Expr

@@ -3,6 +3,7 @@
 --     OnDone end P                   P holds if all bytes were taken
 --     OnPutFailed end P              P holds if the put failed
 --     OnPutOutOfMemory end P         P holds if memory was wanting
+--     UnlessPutFailed end P          P holds if the put did not fail
 --     UnlessPutOutOfMemory end P     P holds if memory was there
 --     appended told bytes            what is told once these bytes are written too; nothing where nothing was told
 --     AppendsFront old new bytes     new is old with a front of these bytes, maybe none or all of them
@@ -24,6 +25,11 @@ abbrev pub OnPutOutOfMemory : PutEnd → Type 0 → Type 0
 OnPutOutOfMemory Done P = Unit {0}
 OnPutOutOfMemory Failed P = Unit {0}
 OnPutOutOfMemory OutOfMemory P = P
+
+abbrev pub UnlessPutFailed : PutEnd → Type 0 → Type 0
+UnlessPutFailed Done P = P
+UnlessPutFailed Failed P = Unit {0}
+UnlessPutFailed OutOfMemory P = P
 
 abbrev pub UnlessPutOutOfMemory : PutEnd → Type 0 → Type 0
 UnlessPutOutOfMemory Done P = P

@@ -3,6 +3,7 @@
 --     OnWhole end P         P holds if the file was read to its end
 --     OnTooLong end P       P holds if the file has more bytes than were allowed
 --     OnReadFailed end P    P holds if the file could not be read
+--     UnlessReadFailed end P    P holds if the read did not fail
 --     UnlessWhole end P     P holds if the read ended in any other way than at the file's end
 use Rattle.cp_outside.specs.declared.files.ReadEnd.{ReadEnd}
 use Rattle.cp_outside.specs.declared.files.ReadEnd.TheVariants.{Whole, TooLong, Failed, OutOfMemory}
@@ -24,6 +25,12 @@ OnReadFailed Whole P = Unit {0}
 OnReadFailed TooLong P = Unit {0}
 OnReadFailed Failed P = P
 OnReadFailed OutOfMemory P = Unit {0}
+
+abbrev pub UnlessReadFailed : ReadEnd → Type 0 → Type 0
+UnlessReadFailed Whole P = P
+UnlessReadFailed TooLong P = P
+UnlessReadFailed Failed P = Unit {0}
+UnlessReadFailed OutOfMemory P = P
 
 abbrev pub UnlessWhole : ReadEnd → Type 0 → Type 0
 UnlessWhole Whole P = Unit {0}

@@ -2,7 +2,7 @@
 
 ghost use Rattle.std.specs.Prelude.{◌≡◌, ◌≢◌, ℕ, ◌<◌, ◌≤◌, List, [], Option, length, IfSome};
 ghost use Rattle.cp_outside.specs.Faults.{Rose};
-ghost use Rattle.cp_outside.specs.Reads.{OnWhole, OnTooLong, OnReadFailed, UnlessWhole};
+ghost use Rattle.cp_outside.specs.Reads.{OnWhole, OnTooLong, OnReadFailed, UnlessReadFailed, UnlessWhole};
 
 /// How a read of a file ended.
 #[derive(Clone, Copy, Debug, PartialEq, Eq)]
@@ -36,6 +36,7 @@ pub trait Files {
         // The cause of a failure is outside.
         ensures failed { OnReadFailed result (Rose (faults self.old name.now) (faults self.new name.now)) }
         ensures empty { UnlessWhole result (into.new.items ≡ []) }
+        ensures quiet { UnlessReadFailed result (faults self.new name.now ≡ faults self.old name.now) }
         ensures never_falls { faults self.old name.now ≤ faults self.new name.now }
         ensures told_stays { (other : List ℕ) → told self.new other ≡ told self.old other }
         ensures others_stay { (other : List ℕ) → other ≢ name.now → faults self.new other ≡ faults self.old other };

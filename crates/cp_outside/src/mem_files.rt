@@ -2,7 +2,7 @@
 
 ghost use Rattle.std.specs.Prelude.{◌≡◌, ◌≢◌, ◌⊎◌, ℕ, ◌<◌, ◌≤◌, List, [], Some, None, length, IfSome, IfNone, OnOk, OnErr};
 ghost use Rattle.cp_outside.specs.Faults.{Rose};
-ghost use Rattle.cp_outside.specs.Reads.{OnWhole, OnTooLong, OnReadFailed, UnlessWhole};
+ghost use Rattle.cp_outside.specs.Reads.{OnWhole, OnTooLong, OnReadFailed, UnlessReadFailed, UnlessWhole};
 
 use crate::failed_names::add_failed;
 use crate::files::{Files, ReadEnd};
@@ -64,6 +64,7 @@ impl Files for MemFiles {
         ensures too_long { OnTooLong result (IfSome (told_by self.old name.now) (λ bytes. limit < length bytes)) }
         ensures failed { OnReadFailed result (Rose (faults_by self.old name.now) (faults_by self.new name.now)) }
         ensures empty { UnlessWhole result (into.new.items ≡ []) }
+        ensures quiet { UnlessReadFailed result (faults_by self.new name.now ≡ faults_by self.old name.now) }
         ensures never_falls { faults_by self.old name.now ≤ faults_by self.new name.now }
         ensures told_stays { (other : List ℕ) → told_by self.new other ≡ told_by self.old other }
         ensures others_stay { (other : List ℕ) → other ≢ name.now → faults_by self.new other ≡ faults_by self.old other }

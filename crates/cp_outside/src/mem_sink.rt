@@ -2,7 +2,7 @@
 
 ghost use Rattle.std.specs.Prelude.{◌≡◌, ◌≢◌, ◌≤◌, [], ◌∷◌, Some, IfOk, OnOk, OnErr};
 ghost use Rattle.cp_outside.specs.Faults.{RoseOrFull};
-ghost use Rattle.cp_outside.specs.Puts.{OnDone, OnPutFailed, OnPutOutOfMemory, UnlessPutOutOfMemory, appended, AppendsFront};
+ghost use Rattle.cp_outside.specs.Puts.{OnDone, OnPutFailed, OnPutOutOfMemory, UnlessPutFailed, UnlessPutOutOfMemory, appended, AppendsFront};
 ghost use Rattle.cp_outside.specs.Recordings.{next_call, next_keep, keep_of, piece, end_of, after_put, IsWithinRoom};
 
 use crate::sink::{PutEnd, Sink};
@@ -110,6 +110,7 @@ impl Sink for MemSink {
         ensures front { OnPutFailed result (AppendsFront (Some self.old.written) (Some self.new.written) bytes.now) }
         ensures nothing { OnPutOutOfMemory result (Some self.new.written ≡ Some self.old.written) }
         ensures failed { OnPutFailed result (RoseOrFull self.old.faults self.new.faults) }
+        ensures quiet { UnlessPutFailed result (self.new.faults ≡ self.old.faults) }
         ensures never_falls { self.old.faults ≤ self.new.faults }
         // It does what is planned, if memory is there.
         ensures as_planned { UnlessPutOutOfMemory result (result ≡ end_of (next_keep self.old)) }

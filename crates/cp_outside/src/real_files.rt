@@ -2,7 +2,7 @@
 
 ghost use Rattle.std.specs.Prelude.{◌≡◌, ℕ, ◌≤◌, List, [], None, length};
 ghost use Rattle.cp_outside.specs.FailedNames.{times_failed};
-ghost use Rattle.cp_outside.specs.Reads.{OnWhole, UnlessWhole};
+ghost use Rattle.cp_outside.specs.Reads.{OnWhole, UnlessReadFailed, UnlessWhole};
 
 use crate::failed_names::add_failed;
 use crate::files::{Files, ReadEnd};

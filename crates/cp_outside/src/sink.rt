@@ -2,7 +2,7 @@
 
 ghost use Rattle.std.specs.Prelude.{◌≡◌, ℕ, ◌≤◌, List, Option};
 ghost use Rattle.cp_outside.specs.Faults.{RoseOrFull};
-ghost use Rattle.cp_outside.specs.Puts.{OnDone, OnPutFailed, OnPutOutOfMemory, appended, AppendsFront};
+ghost use Rattle.cp_outside.specs.Puts.{OnDone, OnPutFailed, OnPutOutOfMemory, UnlessPutFailed, appended, AppendsFront};
 
 /// How a put ended.
 #[derive(Clone, Copy, Debug, PartialEq, Eq)]
@@ -32,5 +32,6 @@ pub trait Sink {
         ensures nothing { OnPutOutOfMemory result (told self.new ≡ told self.old) }
         // The cause of a failure is outside.
         ensures failed { OnPutFailed result (RoseOrFull (faults self.old) (faults self.new)) }
+        ensures quiet { UnlessPutFailed result (faults self.new ≡ faults self.old) }
         ensures never_falls { faults self.old ≤ faults self.new };
 }

@@ -84,6 +84,22 @@ fn real_files_are_read(rt: HostRuntime) -> io::Result<()> {
 }
 
 #[test]
+fn a_real_file_of_two_pieces_is_read_to_its_end(rt: HostRuntime) -> Result<(), AllocError> {
+    let name = "cp_outside_long_test_file";
+    let mut long = vec![in rt.alloc(); b'x'; 20000]?;
+    long.push(b'y')?;
+    assert!(rt; fs::write(&rt, name, &long).is_ok());
+    let mut files = RealFiles::new(&rt, rt.alloc());
+    let mut into = Vec::new(rt.alloc());
+    assert_eq!(rt; files.read_file(name, &mut into, 20000), ReadEnd::TooLong);
+    assert_eq!(rt; into.len(), 0);
+    assert_eq!(rt; files.read_file(name, &mut into, 20001), ReadEnd::Whole);
+    assert_eq!(rt; into.as_slice(), long.as_slice());
+    assert!(rt; fs::remove_file(&rt, name).is_ok());
+    Ok(())
+}
+
+#[test]
 fn the_standard_output_takes_all_bytes(rt: HostRuntime) {
     let mut sink = RealSink::new(&rt);
     assert_eq!(rt; sink.put(b"a line of a test\n"), PutEnd::Done);

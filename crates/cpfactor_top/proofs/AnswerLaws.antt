@@ -1,27 +1,25 @@
 -- From one layer's answers to the next, and that one ending alone is due.
 use Rattle.std.specs.Prelude.{◌≡◌, ℕ, ℤ, pos, ◌≤ℤ◌, nat_abs, List, Some, Ok}
 use Rattle.std.proofs.Common.{refl, sym, ap, ◌∙◌, subst, inl, inr}
-use Rattle.exact_forms.proofs.Signs.{negative_not_nonneg}
 use Rattle.symmetric_matrix.specs.Owed.{answer}
 use Rattle.symmetric_matrix.specs.Symmetric.{Symmetric, entry}
 use Rattle.symmetric_matrix.proofs.Owed.{none_of_ok}
 use Rattle.matrix_text.specs.Matrix.{MatrixText, MatrixFault}
 use Rattle.matrix_text.specs.Clearing.{PlacedOp, is_placed_owed, clear_ops, cleared_of, IsCleared}
-use Rattle.matrix_text.specs.RationalMatrix.{RationalMatrix, rational_entry}
+use Rattle.matrix_text.specs.RationalMatrix.{RationalMatrix}
 use Rattle.matrix_text.specs.declared.fault.TextFault.{TextFault}
 use Rattle.unimodular_cone.specs.declared.Mode.{Mode}
 use Rattle.unimodular_cone.specs.Answer.{SearchAnswer, BoundWide, Wide, Low, Depth, Copositive, Found}
 use Rattle.unimodular_cone.proofs.AnswerUnique.{answer_unique}
-use Rattle.cpfactor_top.specs.declared.start_weight.WideWeight.{WideWeight}
 use Rattle.cpfactor_top.specs.declared.ended.Ended.{Ended}
 use Rattle.cpfactor_top.specs.declared.ended.Cause.TheVariants as cause
-use Rattle.cpfactor_top.specs.declared.ended.Owed.TheVariants.{Clear, Start}
-use Rattle.cpfactor_top.specs.Ending.{ending, HasStatus}
-use Rattle.cpfactor_top.specs.StartCone.{LiesInStartCone, LiesOutside}
+use Rattle.cpfactor_lines.specs.declared.owed.Owed.TheVariants.{Clear}
+use Rattle.cpfactor_top.specs.Causes.{ending, HasStatus}
 use Rattle.cpfactor_top.specs.Given.{whole_of, IsClearable, IsQuotient, IsClearRefused}
-use Rattle.cpfactor_top.specs.Solving.{IsWeightRefused, IsPlaceDue, IsWeighDue, IsSolveDue, IsSolved}
+use Rattle.cpfactor_top.specs.Solving.{IsSolveDue, IsSolved}
 use Rattle.cpfactor_top.specs.Searching.{search_ending, IsFoundDue, IsFound, IsSearchDue, IsSearched}
 use Rattle.cpfactor_top.specs.Answers.{IsBytesDue, IsBytesAnswer}
+use Rattle.cpfactor_top.proofs.StartAnswers.{start_once, start_is_due, start_status}
 
 -- ---- what a command answers of a matrix: each answer is due, one ending alone is, and its status goes with its cause
 pub record IsQuestion (answers : RationalMatrix → Ended → List ℕ → Type 0) (due : RationalMatrix → Ended → Type 0) : Type 0 where
@@ -39,43 +37,19 @@ clearable_not_refused : (a : RationalMatrix) (e : Ended) → IsClearable a → I
 clearable_not_refused a e none h = absurd (let some = h.first in cc)
 
 -- ---- solve
-in_or_out : (n : ℕ) (a : ℕ → ℕ → _) → LiesInStartCone n a → LiesOutside n a → ⊥
-in_or_out n a inside outside = negative_not_nonneg (outside.coordinates outside.place) outside.negative (inside.nonnegative outside.coordinates outside.are_coordinates outside.place outside.within)
-
-weight_refused_once : (a : RationalMatrix) (e f : Ended) → IsWeightRefused a e → IsWeightRefused a f → e ≡ f
-weight_refused_once a e f h k =
-    let one : Some h.wide ≡ Some k.wide = sym h.first ∙ k.first in
-    h.ended ∙ ap (λ (w : WideWeight). ending (cause.Overflow (Start w.vector w.op))) (let same : h.wide ≡ k.wide = cc in same) ∙ sym k.ended
-
-place_once : (a : RationalMatrix) (e f : Ended) → IsPlaceDue a e → IsPlaceDue a f → e ≡ f
-place_once a e f (inl (out, h)) (inl (out', k)) = h ∙ sym k
-place_once a e f (inl (out, h)) (inr (inside, k)) = absurd (in_or_out a.size (rational_entry a) inside out)
-place_once a e f (inr (inside, h)) (inl (out, k)) = absurd (in_or_out a.size (rational_entry a) inside out)
-place_once a e f (inr (inside, h)) (inr (inside', k)) = h ∙ sym k
-
-weigh_once : (a : RationalMatrix) (e f : Ended) → IsWeighDue a e → IsWeighDue a f → e ≡ f
-weigh_once a e f (inl h) (inl k) = weight_refused_once a e f h k
-weigh_once a e f (inl h) (inr (none, k)) = absurd (let some = h.first in cc)
-weigh_once a e f (inr (none, h)) (inl k) = absurd (let some = k.first in cc)
-weigh_once a e f (inr (none, h)) (inr (none', k)) = place_once a e f h k
-
 solve_once : (a : RationalMatrix) (e f : Ended) → IsSolveDue a e → IsSolveDue a f → e ≡ f
 solve_once a e f (inl h) (inl k) = refused_once a e f h k
 solve_once a e f (inl h) (inr (none, k)) = absurd (clearable_not_refused a e none h)
 solve_once a e f (inr (none, h)) (inl k) = absurd (clearable_not_refused a f none k)
-solve_once a e f (inr (none, h)) (inr (none', k)) = weigh_once a e f h k
+solve_once a e f (inr (none, h)) (inr (none', k)) = start_once a e f h k
 
 solve_is_due : (a : RationalMatrix) (e : Ended) (text : List ℕ) → IsSolved a e text → IsSolveDue a e
-solve_is_due a e text (inl h) = inl h.refused
-solve_is_due a e text (inr (none, inl h)) = inr (none, inl h.refused)
-solve_is_due a e text (inr (none, inr (none', inl (out, written)))) = inr (none, inr (none', inl out))
-solve_is_due a e text (inr (none, inr (none', inr (inside, verdict)))) = inr (none, inr (none', inr inside))
+solve_is_due a e text (inl h) = inl h.0
+solve_is_due a e text (inr (none, h)) = inr (none, start_is_due a e text h)
 
 solve_status : (a : RationalMatrix) (e : Ended) → IsSolveDue a e → HasStatus e
 solve_status a e (inl h) = subst HasStatus (sym h.ended) (inl refl)
-solve_status a e (inr (none, inl h)) = subst HasStatus (sym h.ended) (inl refl)
-solve_status a e (inr (none, inr (none', inl (out, ended)))) = subst HasStatus (sym ended) (inl refl)
-solve_status a e (inr (none, inr (none', inr (inside, ended)))) = subst HasStatus (sym ended) (inl refl)
+solve_status a e (inr (none, h)) = start_status a e h
 
 pub solving : IsQuestion IsSolved IsSolveDue
 solving = record { is_due = solve_is_due; once = solve_once; status = solve_status }
@@ -93,7 +67,7 @@ search_due_once m depth a e f (inr (none, h)) (inr (none', k)) = found_once m de
 answer_status : (answer : SearchAnswer) → HasStatus (search_ending answer)
 answer_status (Found m vectors) = inl refl
 answer_status Copositive = inl refl
-answer_status (Low x z path) = inr refl
+answer_status (Low x z path) = inr (refl, refl)
 answer_status (BoundWide z) = inl refl
 answer_status (Wide path at) = inl refl
 answer_status (Depth path) = inl refl
@@ -103,7 +77,7 @@ search_status m depth a e (inl h) = subst HasStatus (sym h.ended) (inl refl)
 search_status m depth a e (inr (none, h)) = subst HasStatus (sym h.ended) (answer_status h.answer)
 
 search_is_due : (m : Mode) (depth : ℕ) (a : RationalMatrix) (e : Ended) (text : List ℕ) → IsSearched m depth a e text → IsSearchDue m depth a e
-search_is_due m depth a e text (inl h) = inl h.refused
+search_is_due m depth a e text (inl h) = inl h.0
 search_is_due m depth a e text (inr (none, quotient, h)) = inr (none, h.found)
 
 pub searching : (m : Mode) (depth : ℕ) → IsQuestion (IsSearched m depth) (IsSearchDue m depth)
@@ -118,21 +92,21 @@ found_follows m depth a s d cleared positive is e text h =
     inr (clear.0, quotient_of a s d clear.1 positive is, subst (λ (p : Symmetric × ℤ). IsFound m depth p.0 p.1 e text) (sym clear.1) h)
 
 -- ---- bytes
-one_matrix : (bytes : List ℕ) (a b : RationalMatrix) → MatrixText bytes a → MatrixText bytes b → a ≡ b
+pub one_matrix : (bytes : List ℕ) (a b : RationalMatrix) → MatrixText bytes a → MatrixText bytes b → a ≡ b
 unfolding MatrixText
 one_matrix bytes a b h k = cc
 
-one_fault : (bytes : List ℕ) (f g : TextFault) → MatrixFault bytes f.kind f.line → MatrixFault bytes g.kind g.line → f ≡ g
+pub one_fault : (bytes : List ℕ) (f g : TextFault) → MatrixFault bytes f.kind f.line → MatrixFault bytes g.kind g.line → f ≡ g
 unfolding MatrixFault
 one_fault bytes f g h k = cc
 
-text_or_fault : (bytes : List ℕ) (a : RationalMatrix) (f : TextFault) → MatrixText bytes a → MatrixFault bytes f.kind f.line → ⊥
+pub text_or_fault : (bytes : List ℕ) (a : RationalMatrix) (f : TextFault) → MatrixText bytes a → MatrixFault bytes f.kind f.line → ⊥
 unfolding MatrixText MatrixFault
 text_or_fault bytes a f h k = absurd cc
 
 module _ (answers : RationalMatrix → Ended → List ℕ → Type 0) (due : RationalMatrix → Ended → Type 0) (Q : IsQuestion answers due) where
   pub bytes_is_due : (bytes : List ℕ) (e : Ended) (text : List ℕ) → IsBytesAnswer answers bytes e text → IsBytesDue due bytes e
-  bytes_is_due bytes e text (inl (fault, is, ended, written)) = inl (fault, is, ended)
+  bytes_is_due bytes e text (inl h) = inl h.0
   bytes_is_due bytes e text (inr (a, is, h)) = inr (a, is, Q.is_due a e text h)
 
   pub bytes_due_once : (bytes : List ℕ) (e f : Ended) → IsBytesDue due bytes e → IsBytesDue due bytes f → e ≡ f

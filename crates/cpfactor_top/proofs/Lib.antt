@@ -1,18 +1,11 @@
-pub mod LineLemmas
-pub mod Endings
-pub mod Fronts
-pub mod Listings
+pub mod OutcomeLaws
 pub mod StartTerms
 pub mod StartWeighing
+pub mod StartAnswers
 pub mod AnswerLaws
 pub mod SearchValues
-pub mod WordsAnswers
+pub mod FileLaws
+pub mod CheckLaws
+pub mod CheckWords
+pub mod RequestLaws
 pub mod ClearedEntries
-pub mod FaultPlaces
-pub mod NearFaults
-pub mod OneWay
-mod Examples
-pub mod Numerals
-pub mod Rows
-pub mod Readers
-pub mod Readings

@@ -100,8 +100,8 @@ pub length-weights : (n : ℕ) (q : ℕ → ℕ → ℤ) → length (start_weigh
 unfolding start_weights
 length-weights n q = length-map (start_runs n) (start_weight n q)
 
-pub vector_at : (n k : ℕ) (d : List ℕ) → k < length (start_runs n) → slice_index_or (start_list n) k d ≡ run_vector n (run_at n k)
-vector_at n k d l = ap (λ t. slice_index_or t k d) (start_list_is n) ∙ get_or-map (run_vector n) (start_runs n) k no_run d l
+pub start_vector_at : (n k : ℕ) (d : List ℕ) → k < length (start_runs n) → slice_index_or (start_list n) k d ≡ run_vector n (run_at n k)
+start_vector_at n k d l = ap (λ t. slice_index_or t k d) (start_list_is n) ∙ get_or-map (run_vector n) (start_runs n) k no_run d l
 
 pub weight_at : (n : ℕ) (q : ℕ → ℕ → ℤ) (k : ℕ) (d : ℤ) → k < length (start_runs n) → slice_index_or (start_weights n q) k d ≡ start_weight n q (run_at n k)
 unfolding start_weights
@@ -116,8 +116,8 @@ earlier n i k before l =
     let listed : k < length (start_list n) = omega (arith, length-list n) in
     let inside : i < length (start_runs n) = omega arith in
     let places = increasing_places (start_list n) [] (lists_start_vectors n).increasing i k before listed in
-    subst (λ (v : List ℕ). ComesBefore v (run_vector n (run_at n k))) (vector_at n i [] inside)
-    (subst (λ (v : List ℕ). ComesBefore (slice_index_or (start_list n) i []) v) (vector_at n k [] l) places)
+    subst (λ (v : List ℕ). ComesBefore v (run_vector n (run_at n k))) (start_vector_at n i [] inside)
+    (subst (λ (v : List ℕ). ComesBefore (slice_index_or (start_list n) i []) v) (start_vector_at n k [] l) places)
 
 -- ---- the terms of all runs, for a matrix A = S/d
 module _ (s : Symmetric) (d : ℕ) (positive : 0 < d) (a : ℕ → ℕ → Rational) (is : (i j : ℕ) → i < s.size → j < s.size → a i j ≡ ratio (entry s i j) d) where
@@ -144,7 +144,7 @@ module _ (s : Symmetric) (d : ℕ) (positive : 0 < d) (a : ℕ → ℕ → Ratio
       ∙ sum_ℚ_same (length (start_list s.size)) _ _ (λ k l.
       let inside : k < length (start_runs s.size) = omega (arith, length-list s.size) in
       ap₂ (λ (t : WeightedVector) (w : Rational). w *ℚ whole (coordinate t.vector i *ℤ coordinate t.vector j)) (term_at k no_term inside) (ap (λ (t : WeightedVector). t.weight) (term_at k no_term inside) ∙ sym (coordinate_at s.size (entry s) d k inside))
-      ∙ ap (λ (v : List ℕ). start_coordinates s.size (entry s) d k *ℚ whole (coordinate v i *ℤ coordinate v j)) (sym (vector_at s.size k [] inside)))
+      ∙ ap (λ (v : List ℕ). start_coordinates s.size (entry s) d k *ℚ whole (coordinate v i *ℤ coordinate v j)) (sym (start_vector_at s.size k [] inside)))
       ∙ sym (rank_one_sum_is (start_list s.size) (start_coordinates s.size (entry s) d) i j)
       ∙ are_coordinates.sum i j li lj
 

@@ -13,7 +13,7 @@ use Rattle.symmetric_matrix.proofs.Runs.{runs_from_none, runs_from_more, late_ru
 use Rattle.cpfactor_top.specs.declared.start_weight.WideWeight.{WideWeight}
 use Rattle.cpfactor_top.specs.declared.start_weight.StartFail.{StartFail}
 use Rattle.cpfactor_top.specs.declared.start_weight.StartFail.TheVariants.{Wide, OutOfMemory}
-use Rattle.cpfactor_top.specs.StartWeighing.{addition_ops, weight_ops, weighing_ops, start_ops, is_weight_owed, IsWeighingFail}
+use Rattle.cpfactor_top.specs.StartWeighing.{addition_ops, start_weight_ops, weighing_ops, start_ops, is_weight_owed, IsWeighingFail}
 
 -- ---- a sum
 pub sum_refused : (a x : ℤ) (xs : List ℤ) (v : ℤ) (err : IntOp) → answer is_owed (add_op a x ∷ []) (a +ℤ x) ≡ Err err → answer is_owed (addition_ops a (x ∷ xs)) v ≡ Err err
@@ -46,25 +46,25 @@ pub weight_is : (s : Symmetric) (first last : ℕ) (a b c d : ℤ)
     → a ≡ framed (pos 0) s.size (entry s) (first + 1) (last + 1) → b ≡ neg_ℤ (framed (pos 0) s.size (entry s) first (last + 1))
     → c ≡ neg_ℤ (framed (pos 0) s.size (entry s) (first + 1) (last + 2)) → d ≡ framed (pos 0) s.size (entry s) first (last + 2)
     → answer is_owed (addition_ops a (b ∷ c ∷ d ∷ [])) (a +ℤ b +ℤ c +ℤ d)
-    ≡ answer is_owed (weight_ops s (record { first = first; last = last })) (start_weight s.size (entry s) (record { first = first; last = last }))
-unfolding weight_ops start_weight
+    ≡ answer is_owed (start_weight_ops s (record { first = first; last = last })) (start_weight s.size (entry s) (record { first = first; last = last }))
+unfolding start_weight_ops start_weight
 weight_is s first last a b c d ea eb ec ed = cc
 
-pub indexed : (s : Symmetric) (at : ℕ) (run : Run) → weighing_ops s at (run ∷ []) ≡ map (λ op. record { vector = at; op = op }) (weight_ops s run)
+pub indexed : (s : Symmetric) (at : ℕ) (run : Run) → weighing_ops s at (run ∷ []) ≡ map (λ op. record { vector = at; op = op }) (start_weight_ops s run)
 unfolding weighing_ops
-indexed s at run = append-nil (map (λ op. record { vector = at; op = op }) (weight_ops s run))
+indexed s at run = append-nil (map (λ op. record { vector = at; op = op }) (start_weight_ops s run))
 
-pub indexed_ok : (s : Symmetric) (at : ℕ) (run : Run) (u z : ℤ) → answer is_owed (weight_ops s run) u ≡ Ok z → Ok z ≡ answer is_weight_owed (weighing_ops s at (run ∷ [])) u
+pub indexed_ok : (s : Symmetric) (at : ℕ) (run : Run) (u z : ℤ) → answer is_owed (start_weight_ops s run) u ≡ Ok z → Ok z ≡ answer is_weight_owed (weighing_ops s at (run ∷ [])) u
 indexed_ok s at run u z h =
     let tag : IntOp → WideWeight = λ (op : IntOp). record { vector = at; op = op } in
-    let made = answer-map_ok is_owed is_weight_owed tag (weight_ops s run) u z u (λ o. refl) h in
+    let made = answer-map_ok is_owed is_weight_owed tag (start_weight_ops s run) u z u (λ o. refl) h in
     sym (ap (λ (ops : List WideWeight). answer is_weight_owed ops u) (indexed s at run) ∙ made.0 ∙ ap (λ (w : ℤ). Ok w) made.1)
 
-pub indexed_err : (s : Symmetric) (at : ℕ) (run : Run) (u : ℤ) (op : IntOp) → answer is_owed (weight_ops s run) u ≡ Err op
+pub indexed_err : (s : Symmetric) (at : ℕ) (run : Run) (u : ℤ) (op : IntOp) → answer is_owed (start_weight_ops s run) u ≡ Err op
     → Err (record { vector = at; op = op }) ≡ answer is_weight_owed (weighing_ops s at (run ∷ [])) u
 indexed_err s at run u op h =
     let tag : IntOp → WideWeight = λ (op : IntOp). record { vector = at; op = op } in
-    sym (ap (λ (ops : List WideWeight). answer is_weight_owed ops u) (indexed s at run) ∙ answer-map_err is_owed is_weight_owed tag (weight_ops s run) u u op (λ o. refl) h)
+    sym (ap (λ (ops : List WideWeight). answer is_weight_owed ops u) (indexed s at run) ∙ answer-map_err is_owed is_weight_owed tag (start_weight_ops s run) u u op (λ o. refl) h)
 
 -- ---- the weights of some runs
 pub weighing_ops-append : (s : Symmetric) (at : ℕ) (xs ys : List Run) → weighing_ops s at (xs ++ ys) ≡ weighing_ops s at xs ++ weighing_ops s (at + length xs) ys
@@ -72,7 +72,7 @@ unfolding weighing_ops
 weighing_ops-append s at [] ys = let e : at ≡ at + 0 = omega arith in ap (λ (k : ℕ). weighing_ops s k ys) e
 weighing_ops-append s at (x ∷ xs) ys =
     let e : at + 1 + length xs ≡ at + suc (length xs) = omega arith in
-    let ops : List WideWeight = map (λ op. record { vector = at; op = op }) (weight_ops s x) in
+    let ops : List WideWeight = map (λ op. record { vector = at; op = op }) (start_weight_ops s x) in
     ap (λ (rest : List WideWeight). ops ++ rest) (weighing_ops-append s (at + 1) xs ys ∙ ap (λ (k : ℕ). weighing_ops s (at + 1) xs ++ weighing_ops s k ys) e)
     ∙ sym (append_assoc ops (weighing_ops s (at + 1) xs) (weighing_ops s (at + suc (length xs)) ys))
 

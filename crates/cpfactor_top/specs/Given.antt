@@ -5,17 +5,15 @@
 --     IsClearable a           clearing owes nothing
 --     IsQuotient a            A = S/d, where d, of at least 1, is the least common denominator
 --     IsClearRefused a e      it owes an operation, and the ending names the first
---     IsClearText a e text    that, with the text of the refusal
-use Rattle.std.specs.Prelude.{◌≡◌, ℤ, pos, ◌≤ℤ◌, nat_abs, ℕ, List, Some, None}
+use Rattle.std.specs.Prelude.{◌≡◌, ℤ, pos, ◌≤ℤ◌, nat_abs, Some, None}
 use Rattle.symmetric_matrix.specs.Owed.{first_owed}
 use Rattle.symmetric_matrix.specs.Symmetric.{Symmetric}
 use Rattle.matrix_text.specs.RationalMatrix.{RationalMatrix}
 use Rattle.matrix_text.specs.Clearing.{PlacedOp, is_placed_owed, clear_ops, cleared_of, IsCleared}
 use Rattle.cpfactor_top.specs.declared.ended.Ended.{Ended}
 use Rattle.cpfactor_top.specs.declared.ended.Cause.TheVariants.{Overflow}
-use Rattle.cpfactor_top.specs.declared.ended.Owed.TheVariants.{Clear}
-use Rattle.cpfactor_top.specs.Ending.{ending}
-use Rattle.cpfactor_top.specs.Texts.{owed_text}
+use Rattle.cpfactor_lines.specs.declared.owed.Owed.TheVariants.{Clear}
+use Rattle.cpfactor_top.specs.Causes.{ending}
 
 abbrev pub whole_of : RationalMatrix → Symmetric
 whole_of a = (cleared_of a).0
@@ -34,7 +32,3 @@ pub record IsClearRefused (a : RationalMatrix) (e : Ended) : Type 0 where
   pub op : PlacedOp
   pub first : first_owed is_placed_owed (clear_ops a) ≡ Some op
   pub ended : e ≡ ending (Overflow (Clear op.row op.column op.op))
-
-pub record IsClearText (a : RationalMatrix) (e : Ended) (text : List ℕ) : Type 0 where
-  pub refused : IsClearRefused a e
-  pub written : text ≡ owed_text (Clear refused.op.row refused.op.column refused.op.op)

@@ -1,6 +1,6 @@
 -- What `minimum` and `copositive` answer of a matrix A = S/d: the answer of the search of S, its values divided by d.
 --
---     HasMeaning m n q answer         Found carries the copositive minimum and its minimal vectors, Copositive is said of
+--     HasMeaning m s answer           Found carries the copositive minimum and its minimal vectors, Copositive is said of
 --                                     copositive matrices alone, Low carries a nonzero vector with its value, which is low
 --     search_ending answer            how the program ends with an answer of a search
 --     search_text n d answer          the answer's text
@@ -13,28 +13,28 @@
 use Rattle.std.specs.Prelude.{◌≡◌, ◌⊎◌, ℕ, ℤ, List}
 use Rattle.symmetric_matrix.specs.Symmetric.{Symmetric, entry}
 use Rattle.matrix_text.specs.RationalMatrix.{RationalMatrix}
-use Rattle.unimodular_cone.specs.Cones.{Matrix}
 use Rattle.unimodular_cone.specs.declared.Mode.{Mode}
 use Rattle.unimodular_cone.specs.Answer.{IsMinimum, IsCopositive, IsLowVector, SearchAnswer, BoundWide, Wide, Low, Depth, Copositive, Found, IsSearchAnswer}
 use Rattle.cpfactor_top.specs.declared.ended.Ended.{Ended}
 use Rattle.cpfactor_top.specs.declared.ended.Cause.TheVariants as cause
-use Rattle.cpfactor_top.specs.declared.ended.Owed.TheVariants.{Gram, Bound}
-use Rattle.cpfactor_top.specs.Ending.{ending, separated}
-use Rattle.cpfactor_top.specs.Given.{whole_of, denominator_of, IsClearable, IsQuotient, IsClearRefused, IsClearText}
-use Rattle.cpfactor_top.specs.Texts.{owed_text, depth_text, low_text, copositive_text, minimum_text}
+use Rattle.cpfactor_lines.specs.declared.owed.Owed.TheVariants.{Gram, Bound}
+use Rattle.cpfactor_top.specs.Causes.{ending, separated_ending}
+use Rattle.cpfactor_top.specs.Given.{whole_of, denominator_of, IsClearable, IsQuotient, IsClearRefused}
+use Rattle.cpfactor_top.specs.Outcomes.{Refuses}
+use Rattle.cpfactor_lines.specs.Texts.{owed_text, depth_text, low_text, copositive_text, minimum_text}
 
-abbrev pub HasMeaning : Mode → ℕ → Matrix → SearchAnswer → Type 0
-HasMeaning m n q (Found z vectors) = IsMinimum n q z vectors
-HasMeaning m n q Copositive = IsCopositive n q
-HasMeaning m n q (Low x z path) = IsLowVector m n q x z
-HasMeaning m n q (BoundWide z) = Unit {0}
-HasMeaning m n q (Wide path at) = Unit {0}
-HasMeaning m n q (Depth path) = Unit {0}
+abbrev pub HasMeaning : Mode → Symmetric → SearchAnswer → Type 0
+HasMeaning m s (Found z vectors) = IsMinimum s.size (entry s) z vectors
+HasMeaning m s Copositive = IsCopositive s.size (entry s)
+HasMeaning m s (Low x z path) = IsLowVector m s.size (entry s) x z
+HasMeaning m s (BoundWide z) = Unit {0}
+HasMeaning m s (Wide path at) = Unit {0}
+HasMeaning m s (Depth path) = Unit {0}
 
 abbrev pub search_ending : SearchAnswer → Ended
 search_ending (Found m vectors) = ending cause.Fine
 search_ending Copositive = ending cause.Fine
-search_ending (Low x z path) = separated
+search_ending (Low x z path) = separated_ending
 search_ending (BoundWide z) = ending (cause.Overflow (Bound z))
 search_ending (Wide path at) = ending (cause.Overflow (Gram (record { path = path; entry = at })))
 search_ending (Depth path) = ending (cause.Depth path)
@@ -54,11 +54,12 @@ pub record IsFoundDue (m : Mode) (depth : ℕ) (s : Symmetric) (e : Ended) : Typ
 
 pub record IsFound (m : Mode) (depth : ℕ) (s : Symmetric) (d : ℤ) (e : Ended) (text : List ℕ) : Type 0 where
   pub found : IsFoundDue m depth s e
-  pub meaning : HasMeaning m s.size (entry s) found.answer
+  pub meaning : HasMeaning m s found.answer
   pub written : text ≡ search_text s.size d found.answer
 
 abbrev pub IsSearchDue : Mode → ℕ → RationalMatrix → Ended → Type 0
 IsSearchDue m depth a e = IsClearRefused a e ⊎ (IsClearable a × IsFoundDue m depth (whole_of a) e)
 
 abbrev pub IsSearched : Mode → ℕ → RationalMatrix → Ended → List ℕ → Type 0
-IsSearched m depth a e text = IsClearText a e text ⊎ (IsClearable a × IsQuotient a × IsFound m depth (whole_of a) (denominator_of a) e text)
+IsSearched m depth a e text = Refuses (IsClearRefused a) e text
+    ⊎ (IsClearable a × IsQuotient a × IsFound m depth (whole_of a) (denominator_of a) e text)

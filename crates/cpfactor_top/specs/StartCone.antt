@@ -33,7 +33,8 @@ abbrev pub HasNegativeWeight : Symmetric → List Run → Type 0
 HasNegativeWeight s runs = Any (λ run. start_weight s.size (entry s) run <ℤ pos 0) runs
 
 pub record LiesInStartCone (n : ℕ) (a : ℕ → ℕ → Rational) : Type 0 where
-  pub nonnegative : (c : ℕ → Rational) → AreCoordinates n (start_list n) c a → (k : ℕ) → k < length (start_list n) → IsNonnegative (c k)
+  pub nonnegative : (c : ℕ → Rational) → AreCoordinates n (start_list n) c a → (k : ℕ) → k < length (start_list n)
+      → IsNonnegative (c k)
 
 pub record LiesOutside (n : ℕ) (a : ℕ → ℕ → Rational) : Type 0 where
   pub coordinates : ℕ → Rational

@@ -1,7 +1,7 @@
 -- The additions by which the weights of a whole matrix S over the start vectors are made.
 --
 --     addition_ops s xs         those of the sum of s and the numbers xs, from the left
---     weight_ops S run          those of one weight: from S_jk on, -S_(j-1)k, then -S_j(k+1), then S_(j-1)(k+1), for the run
+--     start_weight_ops S run    those of one weight: from S_jk on, -S_(j-1)k, then -S_j(k+1), then S_(j-1)(k+1), for the run
 --                               from place j to place k, counted from 1; an entry outside of S is 0
 --     weighing_ops S at runs    those of the weights of some runs in their order, each with the index of its vector; the
 --                               first run is that of the vector with the index `at`
@@ -25,14 +25,16 @@ abbrev pub addition_ops : ℤ → List ℤ → List IntOp
 addition_ops s [] = []
 addition_ops s (x ∷ xs) = add_op s x ∷ addition_ops (s +ℤ x) xs
 
-unfoldable pub weight_ops : Symmetric → Run → List IntOp
-weight_ops s run =
+unfoldable pub start_weight_ops : Symmetric → Run → List IntOp
+start_weight_ops s run =
     let at : ℕ → ℕ → ℤ = framed (pos 0) s.size (entry s) in
-    addition_ops (at (run.first + 1) (run.last + 1)) (neg_ℤ (at run.first (run.last + 1)) ∷ neg_ℤ (at (run.first + 1) (run.last + 2)) ∷ at run.first (run.last + 2) ∷ [])
+    addition_ops (at (run.first + 1) (run.last + 1))
+    (neg_ℤ (at run.first (run.last + 1)) ∷ neg_ℤ (at (run.first + 1) (run.last + 2)) ∷ at run.first (run.last + 2) ∷ [])
 
 unfoldable pub weighing_ops : Symmetric → ℕ → List Run → List WideWeight
 weighing_ops s at [] = []
-weighing_ops s at (run ∷ runs) = map (λ op. record { vector = at; op = op }) (weight_ops s run) ++ weighing_ops s (at + 1) runs
+weighing_ops s at (run ∷ runs) = map (λ op. record { vector = at; op = op }) (start_weight_ops s run)
+    ++ weighing_ops s (at + 1) runs
 
 abbrev pub start_ops : Symmetric → List WideWeight
 start_ops s = weighing_ops s 0 (start_runs s.size)

@@ -1,12 +1,14 @@
 //! How a command ends: its status and its cause.
 
 ghost use Rattle.std.specs.Prelude.{◌≡◌};
-ghost use Rattle.cpfactor_top.specs.Ending.{status_number, ending, ended_after};
+ghost use Rattle.cpfactor_top.specs.Causes.{status_number, proof_status, status_of, ending, cut_off, ended_after};
 
+use certificate_checker::Checked;
+use cone_tree_certificate::VerdictFault;
 use cp_outside::PutEnd;
+use cpfactor_lines::Owed;
 use matrix_text::TextFault;
-use symmetric_matrix::IntOp;
-use unimodular_cone::{Path, WideAt};
+use unimodular_cone::Path;
 
 /// The kind of an ending, which the program's exit status shows.
 #[derive(Clone, Copy, Debug, PartialEq, Eq)]
@@ -15,9 +17,11 @@ pub enum Status {
     Done,
     /// A verdict that separates was written, or a value that is too low.
     Separated,
+    /// The checker refuses the verdict.
+    ProofRefused,
     /// The command line is faulty.
     Usage,
-    /// The matrix text is refused.
+    /// The matrix text or the proof text is refused.
     Text,
     /// The search came to its depth.
     Depth,
@@ -41,6 +45,7 @@ impl Status {
         match self {
             Status::Done => 0,
             Status::Separated => 10,
+            Status::ProofRefused => 11,
             Status::Usage => 2,
             Status::Text => 3,
             Status::Depth => 4,
@@ -60,19 +65,6 @@ pub enum Lacking {
     Outside,
 }
 
-/// What doesn't fit: an operation's exact result, whose magnitude is over 2^127 - 1, or an entry of a search.
-#[derive(Clone, Copy, Debug, PartialEq, Eq)]
-pub enum Owed {
-    /// In clearing the matrix of its denominators, at the entry in this row and column, counted from 1.
-    Clear { row: u8, column: u8, op: IntOp },
-    /// In the weight of the start vector of this index, counted from 0.
-    Start { vector: usize, op: IntOp },
-    /// An entry of a cone: of its path, a coordinate over 2^62 or an entry of the Gram matrix over 2^100 in magnitude.
-    Gram { at: WideAt },
-    /// The least diagonal entry of the matrix that is searched, which is over 2^63 - 1.
-    Bound { diagonal: i128 },
-}
-
 /// Why a command ended as it did.
 #[derive(Clone, Copy, Debug, PartialEq, Eq)]
 pub enum Cause {
@@ -80,17 +72,22 @@ pub enum Cause {
     Fine,
     /// The word at this position, counted from 1, can't be read.
     Usage { position: u32 },
-    /// The matrix file is longer than its limit.
+    /// The matrix file, or the proof file, is longer than its limit.
     TooLong,
     /// The matrix text has this first fault.
     MatrixFault(TextFault),
+    /// The proof text has this first fault.
+    ProofFault(VerdictFault),
+    /// The first of the verdict's tests that fails, or the first operation of theirs that doesn't fit: neither `Accepted` nor
+    /// `OutOfMemory`.
+    Proof(Checked),
     /// The search leaves the cone of this path open: its first open path, which has as many digits as the depth allows.
     Depth { path: Path },
     /// This doesn't fit.
     Overflow(Owed),
     /// The input needs what isn't built yet.
     NotYet { what: Lacking },
-    /// Reading the file that the words name failed.
+    /// Reading a file that the words name failed.
     ReadFault,
     /// The sink failed.
     WriteFault,
@@ -98,8 +95,36 @@ pub enum Cause {
     Memory,
 }
 
+/// The status where the checker refuses a verdict so.
+fn proof_status(checked: &Checked) -> Status
+    ensures { result ≡ proof_status checked.now }
+{
+    match checked {
+        Checked::Wide { .. } => Status::Overflow,
+        _ => Status::ProofRefused,
+    }
+}
+
+/// The status that goes with a cause; with `Fine` it is `Done`.
+fn status_of(cause: &Cause) -> Status
+    ensures { result ≡ status_of cause.now }
+{
+    match cause {
+        Cause::Fine => Status::Done,
+        Cause::Usage { .. } => Status::Usage,
+        Cause::TooLong | Cause::MatrixFault(_) | Cause::ProofFault(_) => Status::Text,
+        Cause::Proof(checked) => proof_status(checked),
+        Cause::Depth { .. } => Status::Depth,
+        Cause::Overflow(_) => Status::Overflow,
+        Cause::NotYet { .. } => Status::NotYet,
+        Cause::ReadFault => Status::Read,
+        Cause::WriteFault => Status::Write,
+        Cause::Memory => Status::Memory,
+    }
+}
+
 /// How a command ended.
-#[derive(Clone, Copy, Debug, PartialEq, Eq)]
+#[derive(Debug, Drop)]
 pub struct Ended {
     /// The kind of the ending.
     pub status: Status,
@@ -112,28 +137,27 @@ impl Ended {
     pub fn by(cause: Cause) -> Ended
         ensures { result ≡ ending cause }
     {
-        let status = match cause {
-            Cause::Fine => Status::Done,
-            Cause::Usage { .. } => Status::Usage,
-            Cause::TooLong | Cause::MatrixFault(_) => Status::Text,
-            Cause::Depth { .. } => Status::Depth,
-            Cause::Overflow(_) => Status::Overflow,
-            Cause::NotYet { .. } => Status::NotYet,
-            Cause::ReadFault => Status::Read,
-            Cause::WriteFault => Status::Write,
-            Cause::Memory => Status::Memory,
-        };
-        Ended { status, cause }
+        Ended {
+            status: status_of(&cause),
+            cause,
+        }
     }
 
-    /// This ending after the text of its answer was put, up to this end.
+    /// This ending, where writing its text was cut off by this cause.
+    fn cut_off(self, cause: Cause) -> Ended
+        ensures { result ≡ cut_off cause self }
+    {
+        Ended::by(cause)
+    }
+
+    /// This ending, after its text was put up to this end.
     pub fn after(self, end: PutEnd) -> Ended
         ensures { result ≡ ended_after end self }
     {
         match end {
             PutEnd::Done => self,
-            PutEnd::Failed => Ended::by(Cause::WriteFault),
-            PutEnd::OutOfMemory => Ended::by(Cause::Memory),
+            PutEnd::Failed => self.cut_off(Cause::WriteFault),
+            PutEnd::OutOfMemory => self.cut_off(Cause::Memory),
         }
     }
 }

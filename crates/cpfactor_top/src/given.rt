@@ -4,15 +4,16 @@ ghost use Rattle.std.specs.Prelude.{◌≡◌, ◌≤◌, ◌≤ℤ◌, pos, nat
 ghost use Rattle.matrix_text.specs.Matrix.{MatrixText};
 ghost use Rattle.matrix_text.specs.Clearing.{is_placed_owed, clear_ops, cleared_of, IsCleared};
 ghost use Rattle.symmetric_matrix.specs.Owed.{answer};
-ghost use Rattle.cpfactor_top.specs.Endings.{EndsBy, outlet};
-ghost use Rattle.cpfactor_top.specs.Given.{IsClearText};
-ghost use Rattle.cpfactor_top.specs.Answers.{text_limit, IsFaultAnswer};
+ghost use Rattle.cpfactor_lines.specs.Sinks.{sink_shown};
+ghost use Rattle.cpfactor_top.specs.Outcomes.{EndsBy, Refuses};
+ghost use Rattle.cpfactor_top.specs.Given.{IsClearRefused};
+ghost use Rattle.cpfactor_top.specs.Files.{matrix_file};
+ghost use Rattle.cpfactor_top.specs.Answers.{IsFaultDue};
 
-use crate::ended::{Cause, Ended, Owed};
-use crate::line::Word;
-use crate::names::fault_name;
-use crate::refuse::{refuse, refuse_overflow, want_memory};
+use crate::ended::{Cause, Ended};
+use crate::refusal::{refuse, want_memory};
 use cp_outside::Sink;
+use cpfactor_lines::Owed;
 use matrix_text::{ClearFail, RatMatrix, TextFail, cleared, read_matrix};
 use std::alloc::Global;
 use symmetric_matrix::SymInt;
@@ -23,24 +24,15 @@ pub fn read_or_refuse<K: Sink>(
     bytes: &[u8],
     sink: &mut K,
 ) -> Result<RatMatrix, Ended>
-    requires { length bytes.now ≤ text_limit }
+    requires { length bytes.now ≤ matrix_file.limit }
     ensures read { IfOk result (λ a. MatrixText bytes.now a) }
     ensures silent { IfOk result (λ _. sink.new ≡ sink.old) }
-    ensures refused { IfErr result (λ ended. EndsBy (IsFaultAnswer bytes.now) (outlet (K.told sink.old) (K.told sink.new) (K.faults sink.old) (K.faults sink.new)) ended) }
+    ensures refused { IfErr result (λ ended. EndsBy (Refuses (IsFaultDue bytes.now))
+        (sink_shown K.Sink sink.old sink.new) ended) }
 {
     match read_matrix(alloc, bytes) {
         Ok(a) => Ok(a),
-        Err(TextFail::Fault(fault)) => Err(refuse(
-            alloc,
-            sink,
-            Cause::MatrixFault(fault),
-            &[
-                Word::Text(b"refused"),
-                Word::Text(b"text"),
-                Word::Text(fault_name(fault.kind)),
-                Word::Whole(u64::from(fault.line)),
-            ],
-        )),
+        Err(TextFail::Fault(fault)) => Err(refuse(alloc, sink, Cause::MatrixFault(fault))),
         Err(TextFail::OutOfMemory) => Err(want_memory(sink)),
     }
 }
@@ -55,14 +47,15 @@ pub fn clear_or_refuse<K: Sink>(
     ensures cleared { IfOk result (λ r. IsCleared a.now r.0 (nat_abs r.1)) }
     ensures positive { IfOk result (λ r. pos 1 ≤ℤ r.1) }
     ensures silent { IfOk result (λ _. sink.new ≡ sink.old) }
-    ensures refused { IfErr result (λ ended. EndsBy (IsClearText a.now) (outlet (K.told sink.old) (K.told sink.new) (K.faults sink.old) (K.faults sink.new)) ended) }
+    ensures refused { IfErr result (λ ended. EndsBy (Refuses (IsClearRefused a.now))
+        (sink_shown K.Sink sink.old sink.new) ended) }
 {
     match cleared(alloc, a) {
         Ok(made) => Ok(made),
-        Err(ClearFail::Wide { row, column, op }) => Err(refuse_overflow(
+        Err(ClearFail::Wide { row, column, op }) => Err(refuse(
             alloc,
             sink,
-            Owed::Clear { row, column, op },
+            Cause::Overflow(Owed::Clear { row, column, op }),
         )),
         Err(ClearFail::OutOfMemory) => Err(want_memory(sink)),
     }

@@ -2,16 +2,19 @@
 
 ghost use Rattle.std.specs.Prelude.{◌≤◌, ◌≤ℤ◌, pos, length};
 ghost use Rattle.cpfactor_top.specs.declared.ended.Ended.{Ended as an_ending};
-ghost use Rattle.cpfactor_top.specs.Endings.{EndsBy, outlet};
-ghost use Rattle.cpfactor_top.specs.Ending.{HasStatus};
+ghost use Rattle.cpfactor_lines.specs.Sinks.{sink_shown};
+ghost use Rattle.cpfactor_top.specs.Outcomes.{EndsBy};
+ghost use Rattle.cpfactor_top.specs.Causes.{HasStatus};
 ghost use Rattle.cpfactor_top.specs.Searching.{IsFound, IsSearched, IsSearchDue};
-ghost use Rattle.cpfactor_top.specs.Answers.{text_limit, IsBytesAnswer, IsBytesDue, YieldsTo};
+ghost use Rattle.cpfactor_top.specs.Files.{matrix_file};
+ghost use Rattle.cpfactor_top.specs.Answers.{IsBytesAnswer, IsBytesDue, YieldsTo};
 
-use crate::ended::{Ended, Owed};
-use crate::found::{put_copositive, put_depth, put_low, put_minimum};
+use crate::ended::{Cause, Ended};
+use crate::found::{put_copositive, put_low, put_minimum};
 use crate::given::{clear_or_refuse, read_or_refuse};
-use crate::refuse::{refuse_overflow, want_memory};
+use crate::refusal::{refuse, want_memory};
 use cp_outside::Sink;
+use cpfactor_lines::Owed;
 use matrix_text::RatMatrix;
 use search_core::{Least, Searcher, Sign};
 use serial_search::SerialSearcher;
@@ -35,12 +38,13 @@ pub fn minimum_alone<K: Sink>(
     depth: u8,
     sink: &mut K,
 ) -> Ended
-    requires bytes { length bytes.now ≤ text_limit }
+    requires bytes { length bytes.now ≤ matrix_file.limit }
     requires depth { depth ≤ 200 }
     ensures status { HasStatus result }
     // The ending is that of an answer, whose text is written; or the sink failed or memory was wanting, and a front of that
     // text is, or of the line `refused memory`.
-    ensures ended { EndsBy (IsBytesAnswer (IsSearched mode depth) bytes.now) (outlet (K.told sink.old) (K.told sink.new) (K.faults sink.old) (K.faults sink.new)) result }
+    ensures ended { EndsBy (IsBytesAnswer (IsSearched mode depth) bytes.now)
+        (sink_shown K.Sink sink.old sink.new) result }
     // Each ending comes where it is due.
     ensures due { (e : an_ending) → IsBytesDue (IsSearchDue mode depth) bytes.now e → YieldsTo e result }
 {
@@ -49,9 +53,9 @@ pub fn minimum_alone<K: Sink>(
 
 /// Reads a matrix text and searches its matrix.
 fn search_bytes<K: Sink>(alloc: Global, bytes: &[u8], mode: Mode, depth: u8, sink: &mut K) -> Ended
-    requires bytes { length bytes.now ≤ text_limit }
+    requires bytes { length bytes.now ≤ matrix_file.limit }
     requires depth { depth ≤ 200 }
-    ensures { EndsBy (IsBytesAnswer (IsSearched mode depth) bytes.now) (outlet (K.told sink.old) (K.told sink.new) (K.faults sink.old) (K.faults sink.new)) result }
+    ensures { EndsBy (IsBytesAnswer (IsSearched mode depth) bytes.now) (sink_shown K.Sink sink.old sink.new) result }
 {
     match read_or_refuse(alloc, bytes, sink) {
         Ok(a) => search_matrix(alloc, &a, mode, depth, sink),
@@ -68,7 +72,7 @@ fn search_matrix<K: Sink>(
     sink: &mut K,
 ) -> Ended
     requires { depth ≤ 200 }
-    ensures { EndsBy (IsSearched mode depth a.now) (outlet (K.told sink.old) (K.told sink.new) (K.faults sink.old) (K.faults sink.new)) result }
+    ensures { EndsBy (IsSearched mode depth a.now) (sink_shown K.Sink sink.old sink.new) result }
 {
     match clear_or_refuse(alloc, a, sink) {
         Ok((s, d)) => search_whole(alloc, &s, d, mode, depth, sink),
@@ -87,7 +91,7 @@ fn search_whole<K: Sink>(
 ) -> Ended
     requires depth { depth ≤ 200 }
     requires positive { pos 1 ≤ℤ d }
-    ensures { EndsBy (IsFound mode depth s.now d) (outlet (K.told sink.old) (K.told sink.new) (K.faults sink.old) (K.faults sink.new)) result }
+    ensures { EndsBy (IsFound mode depth s.now d) (sink_shown K.Sink sink.old sink.new) result }
 {
     match mode {
         Mode::Least => search_least(alloc, s, d, depth, sink),
@@ -99,7 +103,7 @@ fn search_whole<K: Sink>(
 fn search_least<K: Sink>(alloc: Global, s: &SymInt, d: i128, depth: u8, sink: &mut K) -> Ended
     requires depth { depth ≤ 200 }
     requires positive { pos 1 ≤ℤ d }
-    ensures { EndsBy (IsFound Mode.Least depth s.now d) (outlet (K.told sink.old) (K.told sink.new) (K.faults sink.old) (K.faults sink.new)) result }
+    ensures { EndsBy (IsFound Mode.Least depth s.now d) (sink_shown K.Sink sink.old sink.new) result }
 {
     match SerialSearcher::new(alloc).least(s, depth) {
         Least::Found { minimum, vectors } => put_minimum(alloc, sink, minimum, d, &vectors),
@@ -108,9 +112,13 @@ fn search_least<K: Sink>(alloc: Global, s: &SymInt, d: i128, depth: u8, sink: &m
             value,
             path,
         } => put_low(alloc, sink, &vector, value, d, path),
-        Least::Depth { path } => put_depth(alloc, sink, path),
-        Least::Wide { at } => refuse_overflow(alloc, sink, Owed::Gram { at }),
-        Least::BoundWide { diagonal } => { refuse_overflow(alloc, sink, Owed::Bound { diagonal }) }
+        Least::Depth { path } => refuse(alloc, sink, Cause::Depth { path }),
+        Least::Wide { at } => refuse(alloc, sink, Cause::Overflow(Owed::Gram { at })),
+        Least::BoundWide { diagonal } => refuse(
+            alloc,
+            sink,
+            Cause::Overflow(Owed::Bound { diagonal }),
+        ),
         Least::OutOfMemory => want_memory(sink),
     }
 }
@@ -119,7 +127,7 @@ fn search_least<K: Sink>(alloc: Global, s: &SymInt, d: i128, depth: u8, sink: &m
 fn search_sign<K: Sink>(alloc: Global, s: &SymInt, d: i128, depth: u8, sink: &mut K) -> Ended
     requires depth { depth ≤ 200 }
     requires positive { pos 1 ≤ℤ d }
-    ensures { EndsBy (IsFound Mode.Sign depth s.now d) (outlet (K.told sink.old) (K.told sink.new) (K.faults sink.old) (K.faults sink.new)) result }
+    ensures { EndsBy (IsFound Mode.Sign depth s.now d) (sink_shown K.Sink sink.old sink.new) result }
 {
     match SerialSearcher::new(alloc).sign(s, depth) {
         Sign::Copositive => put_copositive(alloc, sink, s.n()),
@@ -128,8 +136,8 @@ fn search_sign<K: Sink>(alloc: Global, s: &SymInt, d: i128, depth: u8, sink: &mu
             value,
             path,
         } => put_low(alloc, sink, &vector, value, d, path),
-        Sign::Depth { path } => put_depth(alloc, sink, path),
-        Sign::Wide { at } => refuse_overflow(alloc, sink, Owed::Gram { at }),
+        Sign::Depth { path } => refuse(alloc, sink, Cause::Depth { path }),
+        Sign::Wide { at } => refuse(alloc, sink, Cause::Overflow(Owed::Gram { at })),
         Sign::OutOfMemory => want_memory(sink),
     }
 }

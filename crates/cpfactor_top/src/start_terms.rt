@@ -22,7 +22,8 @@ fn push_positive(
 ) -> Result<(), AllocError>
     requires positive { pos 1 ≤ℤ d }
     requires greater { IsAfter terms.old vector.now }
-    ensures { OnOk result (terms.new ≡ terms.old ++ positive_terms (record { weight = ratio weight (nat_abs d); vector = vector.now } ∷ [])) }
+    ensures { OnOk result (terms.new ≡ terms.old
+        ++ positive_terms (record { weight = ratio weight (nat_abs d); vector = vector.now } ∷ [])) }
 {
     if weight > 0 {
         terms.push(Term {
@@ -43,7 +44,8 @@ pub fn start_terms(
     requires positive { pos 1 ≤ℤ d }
     requires weights { weights.now ≡ start_weights s.now.size (entry s.now) }
     ensures { IfOk result (λ terms. MatchOption terms (HasNegativeWeight s.now (start_runs s.now.size))
-        (λ terms. (terms ≡ positive_terms (start_terms s.now (nat_abs d) (start_runs s.now.size))) × HaveWeights s.now (start_runs s.now.size))) }
+        (λ terms. (terms ≡ positive_terms (start_terms s.now (nat_abs d) (start_runs s.now.size)))
+        × HaveWeights s.now (start_runs s.now.size))) }
 {
     let vectors = start_vectors(alloc, s.n())?;
     let mut terms = Terms::new(alloc);

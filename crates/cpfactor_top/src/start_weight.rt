@@ -3,10 +3,10 @@
 ghost use Rattle.std.specs.Prelude.{◌≡◌, ◌++◌, [], ◌∷◌, ◌+◌, ◌-◌, ◌<◌, ◌≤◌, pos, neg_ℤ, ◌+ℤ◌, length, map, IfOk, IfErr, OnOk, Ok, None};
 ghost use Rattle.symmetric_matrix.specs.Owed.{first_owed, answer};
 ghost use Rattle.symmetric_matrix.specs.Operations.{is_owed};
-ghost use Rattle.symmetric_matrix.specs.Symmetric.{IsNarrow, entry};
+ghost use Rattle.symmetric_matrix.specs.Symmetric.{FitsInt, entry};
 ghost use Rattle.symmetric_matrix.specs.StartVectors.{Run, runs_from};
 ghost use Rattle.symmetric_matrix.specs.StartWeights.{framed, start_weight, start_weights};
-ghost use Rattle.cpfactor_top.specs.StartWeighing.{addition_ops, weight_ops, weighing_ops, start_ops, is_weight_owed, IsWeighingFail};
+ghost use Rattle.cpfactor_top.specs.StartWeighing.{addition_ops, start_weight_ops, weighing_ops, start_ops, is_weight_owed, IsWeighingFail};
 ghost use Rattle.cpfactor_top.specs.declared.start_weight.StartFail.TheVariants.{Wide, OutOfMemory};
 
 use std::alloc::{AllocError, AllocFailed, Global};
@@ -46,7 +46,7 @@ impl<T: Drop> From<AllocFailed<T>> for StartFail {
 #[tactic(auto, unfolding(symmetric_matrix::specs::StartWeights::framed))]
 fn framed_at(s: &SymInt, row: u8, column: u8) -> i128
     ensures value { result ≡ framed (pos 0) s.now.size (entry s.now) row column }
-    ensures narrow { IsNarrow result }
+    ensures fits { FitsInt result }
 {
     let within = 1..=s.n();
     if within.contains(&row) && within.contains(&column) {
@@ -78,7 +78,7 @@ fn run_weight(s: &SymInt, first: u8, last: u8) -> Result<i128, IntOp>
     requires ordered { first ≤ last }
     requires within { last < 8 }
     ensures { let run : Run = record { first = first; last = last } in
-        result ≡ answer is_owed (weight_ops s.now run) (start_weight s.now.size (entry s.now) run) }
+        result ≡ answer is_owed (start_weight_ops s.now run) (start_weight s.now.size (entry s.now) run) }
 {
     sum_of_four(
         framed_at(s, first + 1, last + 1),
@@ -93,7 +93,8 @@ fn indexed_weight(s: &SymInt, vector: usize, first: u8, last: u8) -> Result<i128
     requires ordered { first ≤ last }
     requires within { last < 8 }
     ensures { let run : Run = record { first = first; last = last } in
-        result ≡ answer is_weight_owed (weighing_ops s.now vector (run ∷ [])) (start_weight s.now.size (entry s.now) run) }
+        result ≡ answer is_weight_owed (weighing_ops s.now vector (run ∷ []))
+        (start_weight s.now.size (entry s.now) run) }
 {
     match run_weight(s, first, last) {
         Ok(weight) => Ok(weight),
@@ -104,9 +105,12 @@ fn indexed_weight(s: &SymInt, vector: usize, first: u8, last: u8) -> Result<i128
 /// Appends the weights of the start vectors whose ones begin before the last `later` places, the shortest first.
 fn push_weights(s: &SymInt, later: u8, weights: &mut Vec<i128>) -> Result<(), StartFail>
     requires { later < s.now.size }
-    ensures weights { OnOk result (weights.new.items ≡ weights.old.items ++ map (start_weight s.now.size (entry s.now)) (runs_from (s.now.size - (later + 1)) (later + 1))) }
-    ensures fits { OnOk result (first_owed is_weight_owed (weighing_ops s.now (length weights.old.items) (runs_from (s.now.size - (later + 1)) (later + 1))) ≡ None) }
-    ensures fail { IfErr result (IsWeighingFail (weighing_ops s.now (length weights.old.items) (runs_from (s.now.size - (later + 1)) (later + 1)))) }
+    ensures weights { OnOk result (weights.new.items ≡ weights.old.items
+        ++ map (start_weight s.now.size (entry s.now)) (runs_from (s.now.size - (later + 1)) (later + 1))) }
+    ensures fits { OnOk result (first_owed is_weight_owed
+        (weighing_ops s.now (length weights.old.items) (runs_from (s.now.size - (later + 1)) (later + 1))) ≡ None) }
+    ensures fail { IfErr result (IsWeighingFail
+        (weighing_ops s.now (length weights.old.items) (runs_from (s.now.size - (later + 1)) (later + 1)))) }
 {
     let n = s.n();
     let first = n - 1 - later;

@@ -1,7 +1,9 @@
 //! Whole runs, through the call that the program makes.
 
+ghost use Rattle.std.specs.Prelude.{None};
+
 use crate::{minimum_alone, run, solve_alone};
-use cp_outside::{MemFiles, MemSink};
+use cp_outside::{Files, MemFiles, MemSink, ReadEnd};
 use std::alloc::{AllocError, Global};
 use std::test::Fail;
 use unimodular_cone::Mode;
@@ -200,7 +202,6 @@ fn operations_that_do_not_fit_are_named(rt: HostRuntime) -> Result<(), Fail> {
 fn faulty_words_are_refused_at_their_position(rt: HostRuntime) -> Result<(), Fail> {
     let cases = [
         ("", "refused usage 1\n"),
-        ("check a b", "refused usage 1\n"),
         ("minimum a --depth 201", "refused usage 4\n"),
         ("solve", "refused usage 2\n"),
         ("solve a b", "refused usage 3\n"),
@@ -253,5 +254,30 @@ fn a_failed_put_leaves_a_front_of_the_vectors(rt: HostRuntime) -> Result<(), Fai
         sink.bytes(),
         b"minimum 2/1\nvectors 3\n1 0\n1 1".as_slice()
     );
+    Ok(())
+}
+
+/// Files of which no read finds memory.
+#[derive(Drop)]
+struct NoMemory;
+
+impl Files for NoMemory {
+    ghost told = { λ _ _. None };
+
+    ghost faults = { λ _ _. 0 };
+
+    fn read_file(&mut self, _name: &str, into: &mut Vec<u8>, _limit: usize) -> ReadEnd {
+        into.clear();
+        ReadEnd::OutOfMemory
+    }
+}
+
+#[test]
+fn want_of_memory_in_reading_is_refused(rt: HostRuntime) -> Result<(), Fail> {
+    let words = words_of(rt.alloc(), "solve a")?;
+    let mut sink = MemSink::with_room(rt.alloc(), 200)?;
+    let ended = run(rt.alloc(), &words, &mut NoMemory, &mut sink);
+    assert_eq!(rt; ended.status.number(), 9);
+    assert_eq!(rt; sink.bytes(), b"refused memory\n".as_slice());
     Ok(())
 }

@@ -8,7 +8,7 @@ use Rattle.exact_forms.specs.Rational.{Rational, whole, inverse, neg_ℚ, ◌+�
 use Rattle.exact_forms.specs.Sums.{sum_ℚ}
 use Rattle.exact_forms.proofs.Rational.{ring_ℚ, div-mul, mul-inverse, one_mul_ℚ, zero_mul_ℚ}
 use Rattle.exact_forms.proofs.Slacks.{replaced_here, replaced_other, same_or_not}
-use Rattle.exact_forms.specs.Coordinates.{Columns, IsCoordinates, IsFree, IsBasis, mark, swapped, exchanged}
+use Rattle.exact_forms.specs.Coordinates.{Columns, IsCoordinates, IsIndependent, IsBasis, mark, swapped, exchanged_coordinates}
 
 pub mul_zero_ℚ : (x : Rational) → x *ℚ whole (pos 0) ≡ whole (pos 0)
 mul_zero_ℚ x = ring_ℚ (x ∷ []) (v0 ⊗ num (pos 0)) (num (pos 0)) refl
@@ -66,7 +66,7 @@ module _ (A : Columns) where
   coordinates_same B c x y e h = record { outside = h.outside; sum = λ a b la lb. h.sum a b la lb ∙ e a b la lb }
 
   -- coordinates are unique
-  pub coordinates_unique : (B : ℕ → Bool) (c d : ℕ → Rational) (x y : ℕ → ℕ → Rational) → IsFree A B → IsCoordinates A B c x → IsCoordinates A B d y
+  pub coordinates_unique : (B : ℕ → Bool) (c d : ℕ → Rational) (x y : ℕ → ℕ → Rational) → IsIndependent A B → IsCoordinates A B c x → IsCoordinates A B d y
       → ((a b : ℕ) → a < A.size → b < A.size → x a b ≡ y a b) → (k : ℕ) → k < A.count → c k ≡ d k
   coordinates_unique B c d x y free hc hd same k l =
       let e : c k +ℚ whole (negsuc 0) *ℚ d k ≡ whole (pos 0) = free.only_zero (λ k. c k +ℚ whole (negsuc 0) *ℚ d k)
@@ -82,13 +82,13 @@ module _ (A : Columns) where
   }
 
   pub basis_mark : (B : ℕ → Bool) (coord : ℕ → ℕ → Rational) → IsBasis A B coord → (e : ℕ) → e < A.count → B e ≡ true → (k : ℕ) → k < A.count → coord e k ≡ mark e k
-  basis_mark B coord h e le be k lk = coordinates_unique B (coord e) (mark e) (A.entry e) (A.entry e) h.free (h.written e le) (coordinates_mark B e le be) (λ a b la lb. refl) k lk
+  basis_mark B coord h e le be k lk = coordinates_unique B (coord e) (mark e) (A.entry e) (A.entry e) h.independent (h.written e le) (coordinates_mark B e le be) (λ a b la lb. refl) k lk
 
   -- the coordinates of what the columns write with weights g
   pub read_off : (B : ℕ → Bool) (coord : ℕ → ℕ → Rational) (g c : ℕ → Rational) (x : ℕ → ℕ → Rational) → IsBasis A B coord → IsCoordinates A B c x
       → ((a b : ℕ) → a < A.size → b < A.size → sum_ℚ A.count (λ j. g j *ℚ A.entry j a b) ≡ x a b) → (k : ℕ) → k < A.count → c k ≡ sum_ℚ A.count (λ j. g j *ℚ coord j k)
   read_off B coord g c x h hc same k l =
-      coordinates_unique B c _ x _ h.free hc (coordinates_total B A.count g coord A.entry h.written) (λ a b la lb. sym (same a b la lb)) k l
+      coordinates_unique B c _ x _ h.independent hc (coordinates_total B A.count g coord A.entry h.written) (λ a b la lb. sym (same a b la lb)) k l
 
   -- ---- e takes the place of l
   abbrev lost : (ℕ → ℕ → Rational) → ℕ → ℕ → Rational
@@ -125,7 +125,7 @@ module _ (A : Columns) where
       ∙ ring_ℚ (x a b ∷ s ∷ []) (v0 ⊕ v1 ⊗ num (pos 0)) v0 refl
 
   pub exchange_written : (B : ℕ → Bool) (coord : ℕ → ℕ → Rational) (l e : ℕ) → e < A.count → l ≢ e → coord e l ≢ whole (pos 0) → IsBasis A B coord
-      → (j : ℕ) → j < A.count → IsCoordinates A (swapped B l e) (exchanged coord l e j) (A.entry j)
+      → (j : ℕ) → j < A.count → IsCoordinates A (swapped B l e) (exchanged_coordinates coord l e j) (A.entry j)
   exchange_written B coord l e le nle ne h j lj = record {
     outside = λ k lk off. by k lk off (same_or_not k l);
     sum = with_lost B coord e (coord j) (A.entry j) (coord j l /ℚ coord e l) le h (h.written j lj).sum;
@@ -138,14 +138,14 @@ module _ (A : Columns) where
           ∙ ap (λ w. coord j l +ℚ neg_ℚ w) (div-mul (coord j l) (coord e l) ne)
           ∙ ring_ℚ (coord j l ∷ []) (v0 ⊕ neg v0) (num (pos 0)) refl
 
-      by : (k : ℕ) → k < A.count → swapped B l e k ≡ false → ((k ≡ l) ⊎ (k ≢ l)) → exchanged coord l e j k ≡ whole (pos 0)
+      by : (k : ℕ) → k < A.count → swapped B l e k ≡ false → ((k ≡ l) ⊎ (k ≢ l)) → exchanged_coordinates coord l e j k ≡ whole (pos 0)
       by k lk off (inl s) = subst (λ (k : ℕ). coord j k +ℚ (coord j l /ℚ coord e l) *ℚ lost coord e k ≡ whole (pos 0)) (sym s) at_l
       by k lk off (inr n) =
           let both = off_swapped B l e k n off in
           ap₂ (λ v w. v +ℚ (coord j l /ℚ coord e l) *ℚ w) ((h.written j lj).outside k lk both.1) (lost_off coord e k both.0 ((h.written e le).outside k lk both.1))
           ∙ ring_ℚ ((coord j l /ℚ coord e l) ∷ []) (num (pos 0) ⊕ v0 ⊗ num (pos 0)) (num (pos 0)) refl
 
-  pub exchange_free : (B : ℕ → Bool) (coord : ℕ → ℕ → Rational) (l e : ℕ) → l < A.count → e < A.count → l ≢ e → B e ≡ false → coord e l ≢ whole (pos 0) → IsBasis A B coord → IsFree A (swapped B l e)
+  pub exchange_free : (B : ℕ → Bool) (coord : ℕ → ℕ → Rational) (l e : ℕ) → l < A.count → e < A.count → l ≢ e → B e ≡ false → coord e l ≢ whole (pos 0) → IsBasis A B coord → IsIndependent A (swapped B l e)
   exchange_free B coord l e ll le nle be ne h = record { only_zero = λ c hc k lk. finish c hc k lk }
     where
       d : (ℕ → Rational) → ℕ → Rational
@@ -167,7 +167,7 @@ module _ (A : Columns) where
           off (inr m) = replaced_other B l false k m ∙ b
 
       d_zero : (c : ℕ → Rational) → IsCoordinates A (swapped B l e) c (λ a b. whole (pos 0)) → (k : ℕ) → k < A.count → c k +ℚ neg_ℚ (c e) *ℚ lost coord e k ≡ whole (pos 0)
-      d_zero c hc k lk = h.free.only_zero (λ k. c k +ℚ neg_ℚ (c e) *ℚ lost coord e k) record {
+      d_zero c hc k lk = h.independent.only_zero (λ k. c k +ℚ neg_ℚ (c e) *ℚ lost coord e k) record {
         outside = λ k lk b. d_outside c hc k lk b (same_or_not k e);
         sum = with_lost B coord e c (λ a b. whole (pos 0)) (neg_ℚ (c e)) le h hc.sum;
       } k lk
@@ -186,7 +186,7 @@ module _ (A : Columns) where
 
   -- an exchange keeps the basis
   pub exchange_keeps : (B : ℕ → Bool) (coord : ℕ → ℕ → Rational) (l e : ℕ) → l < A.count → e < A.count → B l ≡ true → B e ≡ false → coord e l ≢ whole (pos 0)
-      → IsBasis A B coord → IsBasis A (swapped B l e) (exchanged coord l e)
+      → IsBasis A B coord → IsBasis A (swapped B l e) (exchanged_coordinates coord l e)
   exchange_keeps B coord l e ll le bl be ne h =
       let nle : l ≢ e = λ (s : l ≡ e). absurd (let t : B l ≡ false = ap B s ∙ be in cc) in
-      record { free = exchange_free B coord l e ll le nle be ne h; written = exchange_written B coord l e le nle ne h }
+      record { independent = exchange_free B coord l e ll le nle be ne h; written = exchange_written B coord l e le nle ne h }

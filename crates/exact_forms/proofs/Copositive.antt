@@ -1,5 +1,5 @@
 -- Laws of copositive matrices and of the copositive minimum.
-use Rattle.std.specs.Prelude.{◌≡◌, ◌≢◌, ℕ, zero, suc, ◌<◌, ℤ, pos, ◌*ℤ◌, ◌≤ℤ◌, ◌⊎◌, List, [], ◌∷◌}
+use Rattle.std.specs.Prelude.{◌≡◌, ◌≢◌, ℕ, zero, suc, ◌<◌, ℤ, pos, ◌*ℤ◌, ◌≤ℤ◌, ◌⊎◌, List, [], ◌∷◌, length}
 use Rattle.std.proofs.Common.{arith, sym, ◌∙◌, ap, refl, inl, inr, subst}
 use Rattle.std.proofs.lemmas.Int.{ints}
 use Rattle.std.specs.List.{Contains}
@@ -7,11 +7,15 @@ use Rattle.commutative_ring.proofs.Laws.{mul_zero_ℤ}
 use Rattle.commutative_ring.proofs.Expand.{expand}
 use Rattle.exact_forms.specs.Forms.{bilinear, form}
 use Rattle.exact_forms.specs.Vectors.{coordinate, IsNonzero}
-use Rattle.exact_forms.specs.Copositive.{Matrix, IsCopositive, IsStrictlyCopositive, Attains, ListsAttaining, IsMinimum}
+use Rattle.exact_forms.specs.Copositive.{Matrix, IsCopositive, Attains, ListsAttaining, IsMinimum}
 use Rattle.exact_forms.proofs.Sums.{sum_to_none}
 use Rattle.exact_forms.proofs.Forms.{form_same, form-mul}
 use Rattle.exact_forms.proofs.Order.{nonneg_mul, mul_le_left, le_of_mul_le_left, positive_mul, positive_factor, cancel_positive}
 use Rattle.exact_forms.proofs.Vectors.{increasing_unique, contains_here}
+
+-- each nonzero vector of n places has a positive value Q[x]
+abbrev pub IsStrictlyCopositive : ℕ → Matrix → Type 0
+IsStrictlyCopositive n q = (x : List ℕ) → length x ≡ n → IsNonzero n x → pos 1 ≤ℤ form n q (coordinate x)
 
 -- a list of all that attain a value is one list
 pub lists_unique : (n : ℕ) (q : Matrix) (m : ℤ) (xs ys : List (List ℕ)) → ListsAttaining n q m xs → ListsAttaining n q m ys → xs ≡ ys

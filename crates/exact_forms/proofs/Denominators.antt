@@ -20,13 +20,13 @@ den_times x =
     turn : (d : ℕ) (n : ℤ) → (pos d *ℤ n) *ℤ pos 1 ≡ n *ℤ pos (1 * d)
     turn d n = omega (arith, ints)
 
-pub record IsCleared (m : ℕ) (f : ℕ → Rational) : Type 0 where
+pub record HasCommonDenominator (m : ℕ) (f : ℕ → Rational) : Type 0 where
   pub common : ℤ
   pub whole_numbers : ℕ → ℤ
   pub positive : pos 1 ≤ℤ common
   pub same : (k : ℕ) → k < m → whole (whole_numbers k) ≡ whole common *ℚ f k
 
-pub cleared : (m : ℕ) (f : ℕ → Rational) → IsCleared m f
+pub cleared : (m : ℕ) (f : ℕ → Rational) → HasCommonDenominator m f
 cleared zero f = record { common = pos 1; whole_numbers = λ k. pos 0; positive = omega (arith, ints); same = λ k l. absurd (omega arith) }
 cleared (suc m) f =
     let r = cleared m f in
@@ -40,7 +40,7 @@ cleared (suc m) f =
     last_or_before : (i n : ℕ) → i < suc n → (i ≡ n) ⊎ (i < n)
     last_or_before i n l = grind arith
 
-    each : (r : IsCleared m f) (k : ℕ) → ((k ≡ m) ⊎ (k < m)) → ((k ≡ m) ⊎ ((k ≡ m) → ⊥))
+    each : (r : HasCommonDenominator m f) (k : ℕ) → ((k ≡ m) ⊎ (k < m)) → ((k ≡ m) ⊎ ((k ≡ m) → ⊥))
         → whole (replaced (λ k. r.whole_numbers k *ℤ pos (f m).den) m (r.common *ℤ (f m).num) k) ≡ whole (r.common *ℤ pos (f m).den) *ℚ f k
     each r k s (inl e) =
         ap whole (replaced_here (λ k. r.whole_numbers k *ℤ pos (f m).den) m (r.common *ℤ (f m).num) k e)
@@ -78,7 +78,7 @@ cleared_square (suc n) m f =
     last_or_before : (i n : ℕ) → i < suc n → (i ≡ n) ⊎ (i < n)
     last_or_before i n l = grind arith
 
-    each : (r : IsClearedSquare n m f) (s : IsCleared m (f n)) (i j : ℕ) → j < m → ((i ≡ n) ⊎ (i < n)) → ((i ≡ n) ⊎ ((i ≡ n) → ⊥))
+    each : (r : IsClearedSquare n m f) (s : HasCommonDenominator m (f n)) (i j : ℕ) → j < m → ((i ≡ n) ⊎ (i < n)) → ((i ≡ n) ⊎ ((i ≡ n) → ⊥))
         → whole (cond (eqb i n) (r.common *ℤ s.whole_numbers j) (r.whole_numbers i j *ℤ s.common)) ≡ whole (r.common *ℤ s.common) *ℚ f i j
     each r s i j lj a (inl e) =
         ap whole (replaced_here (λ i. r.whole_numbers i j *ℤ s.common) n (r.common *ℤ s.whole_numbers j) i e)

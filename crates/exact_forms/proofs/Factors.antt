@@ -11,7 +11,7 @@ use Rattle.exact_forms.specs.Forms.{form, inner}
 use Rattle.exact_forms.specs.Signs.{IsPositive, IsNegative, IsNonnegative}
 use Rattle.exact_forms.specs.Vectors.{coordinate, IsNonzero}
 use Rattle.exact_forms.specs.Copositive.{Matrix, IsCopositive}
-use Rattle.exact_forms.specs.Factors.{WeightedVector, weighted_sum, pairing, IsFactorization, Separates}
+use Rattle.exact_forms.specs.Factors.{WeightedVector, weighted_sum, inner_ℚ, IsFactorization, Separates}
 use Rattle.exact_forms.proofs.Rational.{ring_ℚ, zero_mul_ℚ, whole-mul, mul-ratio, ratio_same}
 use Rattle.exact_forms.proofs.RationalSums.{sum_ℚ_same, sum_ℚ_swap, mul-sum_ℚ, sum_ℚ-zero, sum_ℚ_head, sums_ℚ_same, sums_ℚ-add, mul-sums_ℚ, sum_ℚ_none, whole-sums}
 use Rattle.exact_forms.proofs.Forms.{form_is_inner}
@@ -54,41 +54,41 @@ weighted_sum_by_places (term ∷ terms) d i j =
     ∙ ap (λ w. term.weight *ℚ whole (coordinate term.vector i *ℤ coordinate term.vector j) +ℚ w) (weighted_sum_by_places terms d i j)
     ∙ sym (sum_ℚ_head (length terms) (λ k. (slice_index_or (term ∷ terms) k d).weight *ℚ whole (coordinate (slice_index_or (term ∷ terms) k d).vector i *ℤ coordinate (slice_index_or (term ∷ terms) k d).vector j)))
 
--- ---- the pairing
-pub pairing_is : (n : ℕ) (w : Matrix) (a : ℕ → ℕ → Rational) → pairing n w a ≡ sum_ℚ n (λ i. sum_ℚ n (λ j. whole (w i j) *ℚ a i j))
-unfolding pairing
-pairing_is n w a = refl
+-- ---- the inner product over the rationals
+pub inner_ℚ_is : (n : ℕ) (w : Matrix) (a : ℕ → ℕ → Rational) → inner_ℚ n w a ≡ sum_ℚ n (λ i. sum_ℚ n (λ j. whole (w i j) *ℚ a i j))
+unfolding inner_ℚ
+inner_ℚ_is n w a = refl
 
-pub pairing_same : (n : ℕ) (w u : Matrix) (a b : ℕ → ℕ → Rational) → ((i j : ℕ) → i < n → j < n → w i j ≡ u i j) → ((i j : ℕ) → i < n → j < n → a i j ≡ b i j) → pairing n w a ≡ pairing n u b
-unfolding pairing
-pairing_same n w u a b hw ha = sums_ℚ_same n n _ _ (λ i j li lj. ap₂ (λ (z : ℤ) (x : Rational). whole z *ℚ x) (hw i j li lj) (ha i j li lj))
+pub inner_ℚ_same : (n : ℕ) (w u : Matrix) (a b : ℕ → ℕ → Rational) → ((i j : ℕ) → i < n → j < n → w i j ≡ u i j) → ((i j : ℕ) → i < n → j < n → a i j ≡ b i j) → inner_ℚ n w a ≡ inner_ℚ n u b
+unfolding inner_ℚ
+inner_ℚ_same n w u a b hw ha = sums_ℚ_same n n _ _ (λ i j li lj. ap₂ (λ (z : ℤ) (x : Rational). whole z *ℚ x) (hw i j li lj) (ha i j li lj))
 
-pub pairing_none : (n : ℕ) (w : Matrix) (a : ℕ → ℕ → Rational) → ((i j : ℕ) → i < n → j < n → a i j ≡ whole (pos 0)) → pairing n w a ≡ whole (pos 0)
-unfolding pairing
-pairing_none n w a h = sum_ℚ_none n _ (λ i li. sum_ℚ_none n _ (λ j lj. ap (λ x. whole (w i j) *ℚ x) (h i j li lj) ∙ ring_ℚ (whole (w i j) ∷ []) (v0 ⊗ num (pos 0)) (num (pos 0)) refl))
+pub inner_ℚ_none : (n : ℕ) (w : Matrix) (a : ℕ → ℕ → Rational) → ((i j : ℕ) → i < n → j < n → a i j ≡ whole (pos 0)) → inner_ℚ n w a ≡ whole (pos 0)
+unfolding inner_ℚ
+inner_ℚ_none n w a h = sum_ℚ_none n _ (λ i li. sum_ℚ_none n _ (λ j lj. ap (λ x. whole (w i j) *ℚ x) (h i j li lj) ∙ ring_ℚ (whole (w i j) ∷ []) (v0 ⊗ num (pos 0)) (num (pos 0)) refl))
 
 -- ⟨W, c·A + B⟩
-pub pairing_linear : (n : ℕ) (w : Matrix) (c : Rational) (a b : ℕ → ℕ → Rational) → pairing n w (λ i j. c *ℚ a i j +ℚ b i j) ≡ c *ℚ pairing n w a +ℚ pairing n w b
-unfolding pairing
-pairing_linear n w c a b =
+pub inner_ℚ_linear : (n : ℕ) (w : Matrix) (c : Rational) (a b : ℕ → ℕ → Rational) → inner_ℚ n w (λ i j. c *ℚ a i j +ℚ b i j) ≡ c *ℚ inner_ℚ n w a +ℚ inner_ℚ n w b
+unfolding inner_ℚ
+inner_ℚ_linear n w c a b =
     sums_ℚ_same n n _ _ (λ i j li lj. ring_ℚ (whole (w i j) ∷ c ∷ a i j ∷ b i j ∷ []) (v0 ⊗ (v1 ⊗ v2 ⊕ v3)) (v1 ⊗ (v0 ⊗ v2) ⊕ v0 ⊗ v3) refl)
     ∙ sums_ℚ-add n n (λ i j. c *ℚ (whole (w i j) *ℚ a i j)) (λ i j. whole (w i j) *ℚ b i j)
-    ∙ ap (λ x. x +ℚ pairing n w b) (sym (mul-sums_ℚ c n n (λ i j. whole (w i j) *ℚ a i j)))
+    ∙ ap (λ x. x +ℚ inner_ℚ n w b) (sym (mul-sums_ℚ c n n (λ i j. whole (w i j) *ℚ a i j)))
 
 -- at whole entries
-pub pairing-whole : (n : ℕ) (w s : Matrix) → pairing n w (λ i j. whole (s i j)) ≡ whole (inner n w s)
-unfolding pairing inner
-pairing-whole n w s = sums_ℚ_same n n _ _ (λ i j li lj. sym (whole-mul (w i j) (s i j))) ∙ sym (whole-sums n n (λ i j. w i j *ℤ s i j))
+pub inner_ℚ-whole : (n : ℕ) (w s : Matrix) → inner_ℚ n w (λ i j. whole (s i j)) ≡ whole (inner n w s)
+unfolding inner_ℚ inner
+inner_ℚ-whole n w s = sums_ℚ_same n n _ _ (λ i j li lj. sym (whole-mul (w i j) (s i j))) ∙ sym (whole-sums n n (λ i j. w i j *ℤ s i j))
 
 -- at xxᵗ it is W[x]
-pub pairing_of_square : (n : ℕ) (w : Matrix) (x : ℕ → ℤ) → pairing n w (λ i j. whole (x i *ℤ x j)) ≡ whole (form n w x)
-pairing_of_square n w x = pairing-whole n w (λ i j. x i *ℤ x j) ∙ ap whole (sym (form_is_inner n w x))
+pub inner_ℚ_of_square : (n : ℕ) (w : Matrix) (x : ℕ → ℤ) → inner_ℚ n w (λ i j. whole (x i *ℤ x j)) ≡ whole (form n w x)
+inner_ℚ_of_square n w x = inner_ℚ-whole n w (λ i j. x i *ℤ x j) ∙ ap whole (sym (form_is_inner n w x))
 
 -- the value of a combination
-pub pairing_of_combination : (n m : ℕ) (w : Matrix) (c : ℕ → Rational) (e : ℕ → ℕ → ℕ → Rational) (x : ℕ → ℕ → Rational)
-    → ((i j : ℕ) → i < n → j < n → sum_ℚ m (λ k. c k *ℚ e k i j) ≡ x i j) → pairing n w x ≡ sum_ℚ m (λ k. c k *ℚ pairing n w (e k))
-unfolding pairing
-pairing_of_combination n m w c e x h =
+pub inner_ℚ_of_combination : (n m : ℕ) (w : Matrix) (c : ℕ → Rational) (e : ℕ → ℕ → ℕ → Rational) (x : ℕ → ℕ → Rational)
+    → ((i j : ℕ) → i < n → j < n → sum_ℚ m (λ k. c k *ℚ e k i j) ≡ x i j) → inner_ℚ n w x ≡ sum_ℚ m (λ k. c k *ℚ inner_ℚ n w (e k))
+unfolding inner_ℚ
+inner_ℚ_of_combination n m w c e x h =
     sum_ℚ_same n _ _ (λ i li.
     sum_ℚ_same n _ _ (λ j lj.
     ap (λ y. whole (w i j) *ℚ y) (sym (h i j li lj))
@@ -98,20 +98,20 @@ pairing_of_combination n m w c e x h =
     ∙ sum_ℚ_swap n m (λ i k. sum_ℚ n (λ j. c k *ℚ (whole (w i j) *ℚ e k i j)))
     ∙ sum_ℚ_same m _ _ (λ k lk. sym (mul-sums_ℚ (c k) n n (λ i j. whole (w i j) *ℚ e k i j)))
 
-pub pairing_times : (n : ℕ) (w : Matrix) (t : Rational) (x : ℕ → ℕ → Rational) → pairing n w (λ i j. t *ℚ x i j) ≡ t *ℚ pairing n w x
-unfolding pairing
-pairing_times n w t x =
+pub inner_ℚ_times : (n : ℕ) (w : Matrix) (t : Rational) (x : ℕ → ℕ → Rational) → inner_ℚ n w (λ i j. t *ℚ x i j) ≡ t *ℚ inner_ℚ n w x
+unfolding inner_ℚ
+inner_ℚ_times n w t x =
     sums_ℚ_same n n _ _ (λ i j li lj. ring_ℚ (whole (w i j) ∷ t ∷ x i j ∷ []) (v0 ⊗ (v1 ⊗ v2)) (v1 ⊗ (v0 ⊗ v2)) refl)
     ∙ sym (mul-sums_ℚ t n n (λ i j. whole (w i j) *ℚ x i j))
 
 -- of the zero matrix
-pub pairing_zero : (n : ℕ) (w : Matrix) (x : ℕ → ℕ → Rational) → ((i j : ℕ) → i < n → j < n → w i j ≡ pos 0) → pairing n w x ≡ whole (pos 0)
-unfolding pairing
-pairing_zero n w x h = sum_ℚ_none n _ (λ i li. sum_ℚ_none n _ (λ j lj. ap (λ (y : ℤ). whole y *ℚ x i j) (h i j li lj) ∙ zero_mul_ℚ (x i j)))
+pub inner_ℚ_zero : (n : ℕ) (w : Matrix) (x : ℕ → ℕ → Rational) → ((i j : ℕ) → i < n → j < n → w i j ≡ pos 0) → inner_ℚ n w x ≡ whole (pos 0)
+unfolding inner_ℚ
+inner_ℚ_zero n w x h = sum_ℚ_none n _ (λ i li. sum_ℚ_none n _ (λ j lj. ap (λ (y : ℤ). whole y *ℚ x i j) (h i j li lj) ∙ zero_mul_ℚ (x i j)))
 
 -- at entries that are whole
-pub pairing_whole : (n : ℕ) (w s : Matrix) (x : ℕ → ℕ → Rational) → ((i j : ℕ) → i < n → j < n → x i j ≡ whole (s i j)) → pairing n w x ≡ whole (inner n w s)
-pairing_whole n w s x h = pairing_same n w w x (λ i j. whole (s i j)) (λ i j li lj. refl) h ∙ pairing-whole n w s
+pub inner_ℚ_whole : (n : ℕ) (w s : Matrix) (x : ℕ → ℕ → Rational) → ((i j : ℕ) → i < n → j < n → x i j ≡ whole (s i j)) → inner_ℚ n w x ≡ whole (inner n w s)
+inner_ℚ_whole n w s x h = inner_ℚ_same n w w x (λ i j. whole (s i j)) (λ i j li lj. refl) h ∙ inner_ℚ-whole n w s
 
 -- p/d is 1/d times p
 ratio_as_product : (p : ℤ) (d : ℕ) → 0 < d → ratio p d ≡ ratio (pos 1) d *ℚ whole p
@@ -124,12 +124,12 @@ ratio_as_product p d hd =
     turn p d = simp expand
 
 -- at entries over one denominator
-pub pairing-ratio : (n : ℕ) (w s : Matrix) (d : ℕ) → 0 < d → pairing n w (λ i j. ratio (s i j) d) ≡ ratio (inner n w s) d
-pairing-ratio n w s d hd =
-    pairing_same n w w _ (λ i j. ratio (pos 1) d *ℚ whole (s i j) +ℚ whole (pos 0)) (λ i j li lj. refl)
+pub inner_ℚ-ratio : (n : ℕ) (w s : Matrix) (d : ℕ) → 0 < d → inner_ℚ n w (λ i j. ratio (s i j) d) ≡ ratio (inner n w s) d
+inner_ℚ-ratio n w s d hd =
+    inner_ℚ_same n w w _ (λ i j. ratio (pos 1) d *ℚ whole (s i j) +ℚ whole (pos 0)) (λ i j li lj. refl)
     (λ i j li lj. ratio_as_product (s i j) d hd ∙ ring_ℚ (ratio (pos 1) d ∷ whole (s i j) ∷ []) (v0 ⊗ v1) (v0 ⊗ v1 ⊕ num (pos 0)) refl)
-    ∙ pairing_linear n w (ratio (pos 1) d) (λ i j. whole (s i j)) (λ i j. whole (pos 0))
-    ∙ ap₂ (λ x y. ratio (pos 1) d *ℚ x +ℚ y) (pairing-whole n w s) (pairing_none n w (λ i j. whole (pos 0)) (λ i j li lj. refl))
+    ∙ inner_ℚ_linear n w (ratio (pos 1) d) (λ i j. whole (s i j)) (λ i j. whole (pos 0))
+    ∙ ap₂ (λ x y. ratio (pos 1) d *ℚ x +ℚ y) (inner_ℚ-whole n w s) (inner_ℚ_none n w (λ i j. whole (pos 0)) (λ i j li lj. refl))
     ∙ ring_ℚ (ratio (pos 1) d ∷ whole (inner n w s) ∷ []) (v0 ⊗ v1 ⊕ num (pos 0)) (v0 ⊗ v1) refl
     ∙ sym (ratio_as_product (inner n w s) d hd)
 
@@ -139,13 +139,13 @@ pub weighted_values : ℕ → Matrix → List WeightedVector → Rational
 weighted_values n w [] = whole (pos 0)
 weighted_values n w (term ∷ terms) = term.weight *ℚ whole (form n w (coordinate term.vector)) +ℚ weighted_values n w terms
 
-pub pairing_of_terms : (n : ℕ) (w : Matrix) (terms : List WeightedVector) → pairing n w (weighted_sum terms) ≡ weighted_values n w terms
+pub inner_ℚ_of_terms : (n : ℕ) (w : Matrix) (terms : List WeightedVector) → inner_ℚ n w (weighted_sum terms) ≡ weighted_values n w terms
 unfolding weighted_values
-pairing_of_terms n w [] = pairing_none n w (weighted_sum []) (λ i j li lj. weighted_sum-nil i j)
-pairing_of_terms n w (term ∷ terms) =
-    pairing_same n w w _ (λ i j. term.weight *ℚ whole (coordinate term.vector i *ℤ coordinate term.vector j) +ℚ weighted_sum terms i j) (λ i j li lj. refl) (λ i j li lj. weighted_sum-cons term terms i j)
-    ∙ pairing_linear n w term.weight (λ i j. whole (coordinate term.vector i *ℤ coordinate term.vector j)) (weighted_sum terms)
-    ∙ ap₂ (λ x y. term.weight *ℚ x +ℚ y) (pairing_of_square n w (coordinate term.vector)) (pairing_of_terms n w terms)
+inner_ℚ_of_terms n w [] = inner_ℚ_none n w (weighted_sum []) (λ i j li lj. weighted_sum-nil i j)
+inner_ℚ_of_terms n w (term ∷ terms) =
+    inner_ℚ_same n w w _ (λ i j. term.weight *ℚ whole (coordinate term.vector i *ℤ coordinate term.vector j) +ℚ weighted_sum terms i j) (λ i j li lj. refl) (λ i j li lj. weighted_sum-cons term terms i j)
+    ∙ inner_ℚ_linear n w term.weight (λ i j. whole (coordinate term.vector i *ℤ coordinate term.vector j)) (weighted_sum terms)
+    ∙ ap₂ (λ x y. term.weight *ℚ x +ℚ y) (inner_ℚ_of_square n w (coordinate term.vector)) (inner_ℚ_of_terms n w terms)
 
 first_of : (P : WeightedVector → Type 0) (term : WeightedVector) (terms : List WeightedVector) → All P (term ∷ terms) → P term
 first_of P term terms h = h 0 term (omega arith)
@@ -163,20 +163,20 @@ values_nonneg n w (term ∷ terms) h positive sized =
     (values_nonneg n w terms h (others_of (λ term. IsPositive term.weight) term terms positive) (others_of (λ term. length term.vector ≡ n) term terms sized))
 
 -- a copositive W has ⟨W,A⟩ at least 0 where A has a factorization
-pub factorization_nonneg : (n : ℕ) (w : Matrix) (a : ℕ → ℕ → Rational) (terms : List WeightedVector) → IsCopositive n w → IsFactorization n a terms → IsNonnegative (pairing n w a)
+pub factorization_nonneg : (n : ℕ) (w : Matrix) (a : ℕ → ℕ → Rational) (terms : List WeightedVector) → IsCopositive n w → IsFactorization n a terms → IsNonnegative (inner_ℚ n w a)
 factorization_nonneg n w a terms h factors =
-    subst IsNonnegative (sym (pairing_of_terms n w terms) ∙ pairing_same n w w (weighted_sum terms) a (λ i j li lj. refl) factors.sum)
+    subst IsNonnegative (sym (inner_ℚ_of_terms n w terms) ∙ inner_ℚ_same n w w (weighted_sum terms) a (λ i j li lj. refl) factors.sum)
     (values_nonneg n w terms h factors.positive factors.sized)
 
 -- where W separates A there is no factorization
 pub separated_not_factored : (n : ℕ) (w : Matrix) (a : ℕ → ℕ → Rational) (terms : List WeightedVector) → Separates n w a → IsFactorization n a terms → ⊥
-separated_not_factored n w a terms h factors = negative_not_nonneg (pairing n w a) h.negative (factorization_nonneg n w a terms h.copositive factors)
+separated_not_factored n w a terms h factors = negative_not_nonneg (inner_ℚ n w a) h.negative (factorization_nonneg n w a terms h.copositive factors)
 
 -- A over one denominator: W separates it exactly where ⟨W,S⟩ is below 0, for A = S/d
 pub separates_over : (n : ℕ) (w s : Matrix) (d : ℕ) → 0 < d → Separates n w (λ i j. ratio (s i j) d) ↔ (IsCopositive n w × (inner n w s <ℤ pos 0))
 separates_over n w s d hd = (
-  λ h. (h.copositive, (negative-ratio (inner n w s) d hd).0 (subst IsNegative (pairing-ratio n w s d hd) h.negative)),
-  λ h. record { copositive = h.0; negative = subst IsNegative (sym (pairing-ratio n w s d hd)) ((negative-ratio (inner n w s) d hd).1 h.1) },
+  λ h. (h.copositive, (negative-ratio (inner n w s) d hd).0 (subst IsNegative (inner_ℚ-ratio n w s d hd) h.negative)),
+  λ h. record { copositive = h.0; negative = subst IsNegative (sym (inner_ℚ-ratio n w s d hd)) ((negative-ratio (inner n w s) d hd).1 h.1) },
 )
 
 -- ---- the entries below n decide
@@ -184,7 +184,7 @@ pub factorization_same : (n : ℕ) (a b : ℕ → ℕ → Rational) (terms : Lis
 factorization_same n a b terms e h = record { positive = h.positive; sized = h.sized; nonzero = h.nonzero; distinct = h.distinct; sum = λ i j li lj. h.sum i j li lj ∙ e i j li lj }
 
 pub separates_same : (n : ℕ) (w : Matrix) (a b : ℕ → ℕ → Rational) → ((i j : ℕ) → i < n → j < n → a i j ≡ b i j) → Separates n w a → Separates n w b
-separates_same n w a b e h = record { copositive = h.copositive; negative = subst IsNegative (pairing_same n w w a b (λ i j li lj. refl) e) h.negative }
+separates_same n w a b e h = record { copositive = h.copositive; negative = subst IsNegative (inner_ℚ_same n w w a b (λ i j li lj. refl) e) h.negative }
 
 -- ---- the empty list factors the zero matrix alone
 pub empty_factors : (n : ℕ) (a : ℕ → ℕ → Rational) → ((i j : ℕ) → i < n → j < n → a i j ≡ whole (pos 0)) → IsFactorization n a []

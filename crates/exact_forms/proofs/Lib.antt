@@ -20,3 +20,4 @@ pub mod Neighbours
 pub mod Rays
 pub mod PositiveTerms
 pub mod Lowest
+pub mod Lists

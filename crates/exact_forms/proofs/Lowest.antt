@@ -3,10 +3,10 @@ use Rattle.std.specs.Prelude.{◌≡◌, ◌≢◌, ◌↔◌, ℕ, zero, suc, �
 use Rattle.std.proofs.Common.{arith, sym, ◌∙◌, ap, ap₂, refl, subst, lt_of_le_of_lt}
 use Rattle.std.proofs.lemmas.Int.{ints}
 use native.Mathlib.Nat.{div-le_self}
-use Rattle.commutative_ring.specs.Gcd.{gcd_of, gcd_steps}
+use Rattle.commutative_ring.specs.Gcd.{gcd_of, gcd_steps, divided}
 use Rattle.commutative_ring.proofs.Gcd.{gcd_of-step}
 use Rattle.commutative_ring.proofs.Coprime.{gcd_comm}
-use Rattle.commutative_ring.proofs.Lowest.{divided, nat_abs-divided}
+use Rattle.commutative_ring.proofs.Lowest.{nat_abs-divided}
 use Rattle.exact_forms.specs.Rational.{Rational, ratio, whole, neg_ℚ, inverse}
 use Rattle.exact_forms.proofs.Rational.{ratio_parts, ratio_value, ratio_same, den_positive, num_den_lowest}
 use Rattle.exact_forms.specs.Lowest.{IsLowest}

@@ -6,28 +6,28 @@ use Rattle.std.specs.List.{All}
 use Rattle.commutative_ring.proofs.Laws.{mul_add_ℤ}
 use Rattle.commutative_ring.proofs.Expand.{expand, linear}
 use Rattle.exact_forms.specs.Sums.{sum_to, sum_ℚ}
-use Rattle.exact_forms.specs.Forms.{form, inner, IsSymmetric, mark_ℤ, unit}
+use Rattle.exact_forms.specs.Forms.{form, inner, IsSymmetric, mark_ℤ, unit_sum}
 use Rattle.exact_forms.specs.Rational.{Rational, whole, ◌*ℚ◌}
 use Rattle.exact_forms.specs.Vectors.{coordinate}
 use Rattle.exact_forms.specs.Copositive.{Matrix, IsPerfect}
-use Rattle.exact_forms.specs.Factors.{pairing}
+use Rattle.exact_forms.specs.Factors.{inner_ℚ}
 use Rattle.exact_forms.specs.RankOne.{AreCoordinates}
 use Rattle.exact_forms.proofs.Rational.{whole_same}
 use Rattle.exact_forms.proofs.Sums.{sum_to_one, sum_to_none, sums_same, sums-add}
 use Rattle.exact_forms.proofs.RationalSums.{sum_ℚ_same, sum_ℚ_none}
 use Rattle.exact_forms.proofs.Slacks.{replaced_here, replaced_other}
 use Rattle.exact_forms.proofs.Forms.{inner_is, form-add, form-mul}
-use Rattle.exact_forms.proofs.Factors.{pairing_of_combination, pairing_of_square, pairing-whole}
+use Rattle.exact_forms.proofs.Factors.{inner_ℚ_of_combination, inner_ℚ_of_square, inner_ℚ-whole}
 use Rattle.exact_forms.proofs.Coordinates.{mul_zero_ℚ}
 use Rattle.exact_forms.proofs.RankOne.{rank_one_sum_is}
 
 -- what Z gives at a combination of the vectors' matrices
-pub pairing_of_coordinates : (n : ℕ) (z : Matrix) (vectors : List (List ℕ)) (c : ℕ → Rational) (a : ℕ → ℕ → Rational) → AreCoordinates n vectors c a
-    → pairing n z a ≡ sum_ℚ (length vectors) (λ k. c k *ℚ whole (form n z (coordinate (slice_index_or vectors k []))))
-pairing_of_coordinates n z vectors c a h =
-    pairing_of_combination n (length vectors) z c (λ k i j. whole (coordinate (slice_index_or vectors k []) i *ℤ coordinate (slice_index_or vectors k []) j)) a
+pub inner_ℚ_of_coordinates : (n : ℕ) (z : Matrix) (vectors : List (List ℕ)) (c : ℕ → Rational) (a : ℕ → ℕ → Rational) → AreCoordinates n vectors c a
+    → inner_ℚ n z a ≡ sum_ℚ (length vectors) (λ k. c k *ℚ whole (form n z (coordinate (slice_index_or vectors k []))))
+inner_ℚ_of_coordinates n z vectors c a h =
+    inner_ℚ_of_combination n (length vectors) z c (λ k i j. whole (coordinate (slice_index_or vectors k []) i *ℤ coordinate (slice_index_or vectors k []) j)) a
     (λ i j li lj. sym (rank_one_sum_is vectors c i j) ∙ h.sum i j li lj)
-    ∙ sum_ℚ_same (length vectors) _ _ (λ k l. ap (λ w. c k *ℚ w) (pairing_of_square n z (coordinate (slice_index_or vectors k []))))
+    ∙ sum_ℚ_same (length vectors) _ _ (λ k l. ap (λ w. c k *ℚ w) (inner_ℚ_of_square n z (coordinate (slice_index_or vectors k []))))
 
 -- ---- units
 picked : (n a b : ℕ) (z : Matrix) → a < n → b < n → sum_to n (λ i. sum_to n (λ j. z i j *ℤ (mark_ℤ a i *ℤ mark_ℤ b j))) ≡ z a b
@@ -50,23 +50,23 @@ picked n a b z la lb =
     kept x = simp expand
 
 -- a unit picks out its two entries
-pub inner_unit : (n a b : ℕ) (z : Matrix) → a < n → b < n → inner n z (unit a b) ≡ z a b +ℤ z b a
+pub inner_unit : (n a b : ℕ) (z : Matrix) → a < n → b < n → inner n z (unit_sum a b) ≡ z a b +ℤ z b a
 inner_unit n a b z la lb =
-    inner_is n z (unit a b)
+    inner_is n z (unit_sum a b)
     ∙ sums_same n n _ _ (λ i j li lj. mul_add_ℤ (z i j) (mark_ℤ a i *ℤ mark_ℤ b j) (mark_ℤ b i *ℤ mark_ℤ a j))
     ∙ sums-add n n (λ i j. z i j *ℤ (mark_ℤ a i *ℤ mark_ℤ b j)) (λ i j. z i j *ℤ (mark_ℤ b i *ℤ mark_ℤ a j))
     ∙ ap₂ (λ (x : ℤ) (y : ℤ). x +ℤ y) (picked n a b z la lb) (picked n b a z lb la)
 
 -- a list whose matrices write every unit is perfect
 pub perfect_from_units : (n : ℕ) (vectors : List (List ℕ)) (c : ℕ → ℕ → ℕ → Rational)
-    → ((a b : ℕ) → a < n → b < n → AreCoordinates n vectors (c a b) (λ i j. whole (unit a b i j))) → IsPerfect n vectors
+    → ((a b : ℕ) → a < n → b < n → AreCoordinates n vectors (c a b) (λ i j. whole (unit_sum a b i j))) → IsPerfect n vectors
 perfect_from_units n vectors c w = record { only_zero = λ z s vanishes a b la lb. at z s vanishes a b la lb }
   where
     at : (z : Matrix) → IsSymmetric n z → All (λ v. form n z (coordinate v) ≡ pos 0) vectors → (a b : ℕ) → a < n → b < n → z a b ≡ pos 0
     at z s vanishes a b la lb =
-        let nothing : whole (inner n z (unit a b)) ≡ whole (pos 0) =
-        sym (pairing-whole n z (unit a b))
-        ∙ pairing_of_coordinates n z vectors (c a b) (λ i j. whole (unit a b i j)) (w a b la lb)
+        let nothing : whole (inner n z (unit_sum a b)) ≡ whole (pos 0) =
+        sym (inner_ℚ-whole n z (unit_sum a b))
+        ∙ inner_ℚ_of_coordinates n z vectors (c a b) (λ i j. whole (unit_sum a b i j)) (w a b la lb)
         ∙ sum_ℚ_none (length vectors) _ (λ k l. ap (λ (y : ℤ). c a b k *ℚ whole y) (vanishes k [] l) ∙ mul_zero_ℚ (c a b k)) in
         let zero_sum : z a b +ℤ z b a ≡ pos 0 = sym (inner_unit n a b z la lb) ∙ whole_same _ (pos 0) nothing in
         let mirror : z a b ≡ z b a = s a b la lb in

@@ -5,7 +5,7 @@ use Rattle.commutative_ring.proofs.Ring.{num, ◌⊕◌, ◌⊗◌, v0, v1, v2, 
 use Rattle.exact_forms.specs.Rational.{Rational, whole, ◌+ℚ◌, ◌*ℚ◌}
 use Rattle.exact_forms.specs.Sums.{sum_ℚ}
 use Rattle.exact_forms.specs.Vectors.{coordinate}
-use Rattle.exact_forms.specs.Coordinates.{Columns, IsCoordinates, IsFree, mark}
+use Rattle.exact_forms.specs.Coordinates.{Columns, IsCoordinates, IsIndependent, mark}
 use Rattle.exact_forms.specs.RankOne.{rank_one_sum, AreCoordinates, AreIndependent}
 use Rattle.exact_forms.proofs.Rational.{ring_ℚ}
 use Rattle.exact_forms.proofs.RationalSums.{sum_ℚ_same, sum_ℚ-add, mul-sum_ℚ, sum_ℚ_one}
@@ -48,7 +48,7 @@ coordinates_agree n vectors c d a free hc hd k l =
     ring_ℚ (c k ∷ d k ∷ []) v0 ((v0 ⊕ num (negsuc 0) ⊗ v1) ⊕ v1) refl ∙ ap (λ w. w +ℚ d k) e ∙ ring_ℚ (d k ∷ []) (num (pos 0) ⊕ v0) v0 refl
 
 -- vectors whose matrices are different columns of a free set are independent
-pub independent_of_free : (A : Columns) (B : ℕ → Bool) (vectors : List (List ℕ)) (column : ℕ → ℕ) → IsFree A B
+pub independent_of_free : (A : Columns) (B : ℕ → Bool) (vectors : List (List ℕ)) (column : ℕ → ℕ) → IsIndependent A B
     → ((k : ℕ) → k < length vectors → column k < A.count) → ((k : ℕ) → k < length vectors → B (column k) ≡ true)
     → ((k l : ℕ) → k < length vectors → l < length vectors → k ≢ l → column k ≢ column l)
     → ((k i j : ℕ) → k < length vectors → i < A.size → j < A.size → A.entry (column k) i j ≡ whole (coordinate (slice_index_or vectors k []) i *ℤ coordinate (slice_index_or vectors k []) j))

@@ -7,12 +7,12 @@ use lib.IntN.{*ℤ_comm, +ℤ_comm}
 use mathlib.Core.HLevel.{is_prop→PathP}
 use Prim.Native.Nat.{◌∣◌}
 use native.Mathlib.Nat.{dvd-mul_left, dvd_antisymm, mul_comm}
-use Rattle.commutative_ring.specs.Gcd.{gcd_of}
+use Rattle.commutative_ring.specs.Gcd.{gcd_of, divided}
 use Rattle.commutative_ring.proofs.Gcd.{dvd_of_dvd-mul}
-use Rattle.commutative_ring.proofs.Lowest.{divided, part_times, above_times}
+use Rattle.commutative_ring.proofs.Lowest.{part_times, above_times}
 use Rattle.commutative_ring.proofs.Laws.{neg_mul_ℤ}
 use Rattle.commutative_ring.proofs.Expand.{expand, linear}
-use Rattle.commutative_ring.proofs.Ring.{ring, ring_in, normal, value, at, CommutativeRing, Expr, num, ◌⊕◌, ◌⊗◌, neg, v0, v1, v2, v3, v4, v5}
+use Rattle.commutative_ring.proofs.Ring.{ring, ring_in, normal, expr_value, at, CommutativeRing, Expr, num, ◌⊕◌, ◌⊗◌, neg, v0, v1, v2, v3, v4, v5}
 use Rattle.exact_forms.specs.Rational.{Rational, ratio, whole, ◌+ℚ◌, ◌*ℚ◌, ◌/ℚ◌, neg_ℚ, inverse}
 
 -- the two numbers decide
@@ -251,7 +251,7 @@ rational_ring = record {
 }
 
 -- an identity of polynomials over ℚ
-pub ring_ℚ : (xs : List Rational) (e f : Expr) → normal e ≡ normal f → value rational_ring (at rational_ring xs) e ≡ value rational_ring (at rational_ring xs) f
+pub ring_ℚ : (xs : List Rational) (e f : Expr) → normal e ≡ normal f → expr_value rational_ring (at rational_ring xs) e ≡ expr_value rational_ring (at rational_ring xs) f
 ring_ℚ xs e f same_form = ring_in rational_ring xs e f same_form
 
 -- 1/x times x

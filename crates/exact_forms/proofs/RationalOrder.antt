@@ -147,8 +147,8 @@ pub data Order (x y : Rational) : Type 0 where
   equal : x ≡ y → Order x y
   greater : y <ℚ x → Order x y
 
-pub order_of : (x y : Rational) → Order x y
-order_of x y = by (lt_or_le x y) (lt_or_le y x)
+pub trichotomy : (x y : Rational) → Order x y
+trichotomy x y = by (lt_or_le x y) (lt_or_le y x)
   where
     by : ((x <ℚ y) ⊎ (y ≤ℚ x)) → ((y <ℚ x) ⊎ (x ≤ℚ y)) → Order x y
     by (inl h) k = less h

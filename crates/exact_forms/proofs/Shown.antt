@@ -6,13 +6,20 @@ use Rattle.exact_forms.specs.Slacks.{replaced}
 use Rattle.exact_forms.specs.Rational.{Rational, whole, neg_ℚ, ◌+ℚ◌, ◌*ℚ◌, ◌-ℚ◌, ◌/ℚ◌}
 use Rattle.exact_forms.proofs.Rational.{ring_ℚ}
 use Rattle.exact_forms.proofs.Slacks.{replaced_here, replaced_other, same_or_not}
-use Rattle.exact_forms.specs.Coordinates.{Columns, IsBasis, IsShown, IsTableExchange, swapped, exchanged}
+use Rattle.exact_forms.specs.Coordinates.{Columns, IsBasis, IsShown, swapped, exchanged_coordinates}
 use Rattle.exact_forms.proofs.Coordinates.{mark_off}
+
+-- the table t' comes of t by the exchange at row r and column c
+pub record IsTableExchange (rows count : ℕ) (t : ℕ → ℕ → Rational) (basic : ℕ → ℕ) (r c : ℕ) (t' : ℕ → ℕ → Rational) (basic' : ℕ → ℕ) : Type 0 where
+  pub pivot_row : (j : ℕ) → j < count → t' r j ≡ t r j /ℚ t r c
+  pub other_rows : (i j : ℕ) → i < rows → j < count → i ≢ r → t' i j ≡ t i j -ℚ t i c *ℚ (t r j /ℚ t r c)
+  pub entering : basic' r ≡ c
+  pub kept : (i : ℕ) → i < rows → i ≢ r → basic' i ≡ basic i
 
 module _ (A : Columns) (B : ℕ → Bool) (coord : ℕ → ℕ → Rational) (rows : ℕ) (t : ℕ → ℕ → Rational) (basic : ℕ → ℕ)
     (H : IsBasis A B coord) (S : IsShown A B coord rows t basic) (r c : ℕ) (lr : r < rows) (lc : c < A.count) (out : B c ≡ false) where
   -- the new entries
-  at_row : (j : ℕ) → j < A.count → t r j /ℚ t r c ≡ exchanged coord (basic r) c j c
+  at_row : (j : ℕ) → j < A.count → t r j /ℚ t r c ≡ exchanged_coordinates coord (basic r) c j c
   at_row j lj =
       ap₂ (λ x y. x /ℚ y) (S.entry r j lr lj) (S.entry r c lr lc)
       ∙ ring_ℚ ((coord j (basic r) /ℚ coord c (basic r)) ∷ []) v0 (num (pos 0) ⊕ v0 ⊗ (num (pos 1) ⊕ neg (num (pos 0)))) refl
@@ -22,14 +29,14 @@ module _ (A : Columns) (B : ℕ → Bool) (coord : ℕ → ℕ → Rational) (ro
   not_entering : (i : ℕ) → i < rows → basic i ≢ c
   not_entering i li e = absurd (let b = S.in_basis i li in let u : B (basic i) ≡ B c = ap B e in cc)
 
-  at_other : (i j : ℕ) → i < rows → j < A.count → t i j -ℚ t i c *ℚ (t r j /ℚ t r c) ≡ exchanged coord (basic r) c j (basic i)
+  at_other : (i j : ℕ) → i < rows → j < A.count → t i j -ℚ t i c *ℚ (t r j /ℚ t r c) ≡ exchanged_coordinates coord (basic r) c j (basic i)
   unfolding ◌-ℚ◌
   at_other i j li lj =
       ap₂ (λ x y. x +ℚ neg_ℚ y) (S.entry i j li lj) (ap₂ (λ x y. x *ℚ y) (S.entry i c li lc) (ap₂ (λ x y. x /ℚ y) (S.entry r j lr lj) (S.entry r c lr lc)))
       ∙ ring_ℚ (coord j (basic i) ∷ coord c (basic i) ∷ (coord j (basic r) /ℚ coord c (basic r)) ∷ []) (v0 ⊕ neg (v1 ⊗ v2)) (v0 ⊕ v2 ⊗ (num (pos 0) ⊕ neg v1)) refl
       ∙ ap (λ w. coord j (basic i) +ℚ (coord j (basic r) /ℚ coord c (basic r)) *ℚ (w +ℚ neg_ℚ (coord c (basic i)))) (sym (mark_off A c (basic i) (not_entering i li)))
 
-  pub exchange_shown : (t' : ℕ → ℕ → Rational) (basic' : ℕ → ℕ) → IsTableExchange rows A.count t basic r c t' basic' → IsShown A (swapped B (basic r) c) (exchanged coord (basic r) c) rows t' basic'
+  pub exchange_shown : (t' : ℕ → ℕ → Rational) (basic' : ℕ → ℕ) → IsTableExchange rows A.count t basic r c t' basic' → IsShown A (swapped B (basic r) c) (exchanged_coordinates coord (basic r) c) rows t' basic'
   exchange_shown t' basic' T = record {
     entry = λ i j li lj. new_entry i j li lj (same_or_not i r);
     within = λ i li. new_within i li (same_or_not i r);
@@ -44,13 +51,13 @@ module _ (A : Columns) (B : ℕ → Bool) (coord : ℕ → ℕ → Rational) (ro
       other : (i : ℕ) → i < rows → i ≢ r → basic' i ≡ basic i
       other i li n = T.kept i li n
 
-      new_entry : (i j : ℕ) → i < rows → j < A.count → ((i ≡ r) ⊎ (i ≢ r)) → t' i j ≡ exchanged coord (basic r) c j (basic' i)
+      new_entry : (i j : ℕ) → i < rows → j < A.count → ((i ≡ r) ⊎ (i ≢ r)) → t' i j ≡ exchanged_coordinates coord (basic r) c j (basic' i)
       new_entry i j li lj (inl e) =
           ap (λ (i : ℕ). t' i j) e ∙ T.pivot_row j lj
-          ∙ at_row j lj ∙ ap (λ (k : ℕ). exchanged coord (basic r) c j k) (sym (here i e))
+          ∙ at_row j lj ∙ ap (λ (k : ℕ). exchanged_coordinates coord (basic r) c j k) (sym (here i e))
       new_entry i j li lj (inr n) =
           T.other_rows i j li lj n
-          ∙ at_other i j li lj ∙ ap (λ (k : ℕ). exchanged coord (basic r) c j k) (sym (other i li n))
+          ∙ at_other i j li lj ∙ ap (λ (k : ℕ). exchanged_coordinates coord (basic r) c j k) (sym (other i li n))
 
       new_within : (i : ℕ) → i < rows → ((i ≡ r) ⊎ (i ≢ r)) → basic' i < A.count
       new_within i li (inl e) = subst (λ (k : ℕ). k < A.count) (sym (here i e)) lc

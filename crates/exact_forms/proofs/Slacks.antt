@@ -5,12 +5,16 @@ use Rattle.std.proofs.lemmas.Int.{ints}
 use lib.IntN.{*ℤ_comm}
 use Rattle.exact_forms.specs.Sums.{sum_to}
 use Rattle.exact_forms.specs.Forms.{bilinear, form, combination, IsSymmetric}
-use Rattle.exact_forms.specs.Slacks.{replaced, shortfall, slack, IsClosed, AreNonnegative, SomeNonzero}
+use Rattle.exact_forms.specs.Slacks.{replaced, shortfall, slack, IsClosed, AreNonnegative}
 use Rattle.commutative_ring.proofs.Laws.{mul_add_ℤ, add_mul_ℤ, zero_mul_ℤ}
 use Rattle.commutative_ring.proofs.Expand.{expand, linear}
 use Rattle.exact_forms.proofs.Sums.{sum_to-zero, sum_to-suc, sum_to_same, mul-sum_to, sum_to-mul, sum_to_swap, sum_to_le, sum_to_but_one, sum_to-neg, term_le_sum, sums_same, sums-add, mul-sums}
 use Rattle.exact_forms.proofs.Forms.{bilinear_symmetric, form-combination}
 use Rattle.exact_forms.proofs.Order.{nonneg_mul, nonneg_square, mul_le_left, one_le_square, le_of_mul_le_left}
+
+-- some coefficient below m is not 0
+abbrev pub SomeNonzero : ℕ → (ℕ → ℤ) → Type 0
+SomeNonzero m a = (k : ℕ) × (k < m) × (a k ≢ pos 0)
 
 pub same_or_not : (k i : ℕ) → (k ≡ i) ⊎ (k ≢ i)
 same_or_not k i = grind arith

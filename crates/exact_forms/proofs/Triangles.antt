@@ -3,10 +3,14 @@ use Rattle.std.specs.Prelude.{◌⊎◌, ◌≡◌, ℕ, zero, suc, ◌+◌, ◌
 use Rattle.std.proofs.Common.{inl, inr, arith, sym, ◌∙◌, ap, ap₂, refl}
 use Rattle.std.proofs.Math.ListN.{get_or-map}
 use Rattle.commutative_ring.proofs.Expand.{expand, linear}
-use Rattle.exact_forms.specs.Sums.{sum_to}
+use Rattle.commutative_ring.proofs.Ring.{num, ◌⊕◌, ◌⊗◌, v0, v1, v2}
+use Rattle.exact_forms.specs.Rational.{Rational, whole, ◌+ℚ◌, ◌*ℚ◌}
+use Rattle.exact_forms.specs.Sums.{sum_to, sum_ℚ}
 use Rattle.exact_forms.specs.Forms.{IsSymmetric}
 use Rattle.exact_forms.specs.Triangles.{triangle, entry_in}
+use Rattle.exact_forms.proofs.Rational.{ring_ℚ}
 use Rattle.exact_forms.proofs.Sums.{sum_to-zero, sum_to-suc, sum_to_same, sum_to-add}
+use Rattle.exact_forms.proofs.RationalSums.{sum_ℚ-zero, sum_ℚ-suc, sum_ℚ_same, sum_ℚ-add}
 
 pub triangle-zero : triangle 0 ≡ 0
 unfolding triangle
@@ -139,6 +143,22 @@ sum_by_triangle (suc n) f s =
     sum_by_triangle n f (λ i j li lj. s i j (omega arith) (omega arith)) in
     let twice : pos 2 *ℤ sum_to n (λ j. f n j) ≡ sum_to n (λ j. f n j) +ℤ sum_to n (λ j. f n j) = simp expand in
     rw (sum_to-suc n (λ i. sum_to (suc n) (λ j. f i j)), sum_to-suc n (λ i. pos 2 *ℤ sum_to i (λ j. f i j) +ℤ f i i)) (omega (arith, linear))
+
+-- the same of rational numbers
+pub sum_ℚ_by_triangle : (n : ℕ) (f : ℕ → ℕ → Rational) → ((i j : ℕ) → i < n → j < n → f i j ≡ f j i)
+    → sum_ℚ n (λ i. sum_ℚ n (f i)) ≡ sum_ℚ n (λ i. whole (pos 2) *ℚ sum_ℚ i (f i) +ℚ f i i)
+sum_ℚ_by_triangle zero f s = sum_ℚ-zero (λ i. sum_ℚ 0 (f i)) ∙ sym (sum_ℚ-zero (λ i. whole (pos 2) *ℚ sum_ℚ i (f i) +ℚ f i i))
+sum_ℚ_by_triangle (suc n) f s =
+    let half : Rational = sum_ℚ n (λ i. sum_ℚ n (f i)) in
+    let last : Rational = sum_ℚ n (f n) in
+    let inner : sum_ℚ n (λ i. sum_ℚ (suc n) (f i)) ≡ half +ℚ last =
+    sum_ℚ_same n (λ i. sum_ℚ (suc n) (f i)) (λ i. sum_ℚ n (f i) +ℚ f i n) (λ i l. sum_ℚ-suc n (f i)) ∙ sum_ℚ-add n (λ i. sum_ℚ n (f i)) (λ i. f i n)
+    ∙ ap (λ (x : Rational). half +ℚ x) (sum_ℚ_same n (λ i. f i n) (f n) (λ i l. s i n (omega arith) (omega arith))) in
+    sum_ℚ-suc n (λ i. sum_ℚ (suc n) (f i))
+    ∙ ap₂ (λ (x : Rational) (y : Rational). x +ℚ y) inner (sum_ℚ-suc n (f n))
+    ∙ ring_ℚ (half ∷ last ∷ f n n ∷ []) ((v0 ⊕ v1) ⊕ (v1 ⊕ v2)) (v0 ⊕ (num (pos 2) ⊗ v1 ⊕ v2)) refl
+    ∙ ap (λ (x : Rational). x +ℚ (whole (pos 2) *ℚ last +ℚ f n n)) (sum_ℚ_by_triangle n f (λ i j li lj. s i j (omega arith) (omega arith)))
+    ∙ sym (sum_ℚ-suc n (λ i. whole (pos 2) *ℚ sum_ℚ i (f i) +ℚ f i i))
 
 pub entry_in-map : {A B : Type 0} (f : A → B) (none : A) (xs : List A) (i j : ℕ) → entry_in (f none) (map f xs) i j ≡ f (entry_in none xs i j)
 unfolding entry_in

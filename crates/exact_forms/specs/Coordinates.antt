@@ -2,13 +2,12 @@
 --
 --     Columns                       `count` matrices of `size` rows and columns: entry k i j
 --     IsCoordinates A B c x         c is 0 outside the columns of B, and writes x as a combination of the columns
---     IsFree A B                    only the coefficients 0 on B write zero
+--     IsIndependent A B             only the coefficients 0 on B write zero
 --     IsBasis A B coord             B is free, and coord j are the coordinates of column j over B
 --     mark e                        1 at e, else 0
 --     swapped B l e                 B with e in place of l
---     exchanged coord l e           the coordinates over swapped B l e, by those over B
+--     exchanged_coordinates coord l e  the coordinates over swapped B l e, by those over B
 --     IsShown A B coord rows t basic     row i of the table t has the coordinates at its basic column `basic i`
---     IsTableExchange rows count t basic r c t' basic'   the table t' comes of t by the exchange at row r and column c
 --
 -- A set of columns is a test of their numbers. Rows, columns and places count from 0.
 use Rattle.std.specs.Prelude.{ℕ, ◌≡◌, ◌≢◌, ◌<◌, pos, Bool, true, false}
@@ -25,11 +24,11 @@ pub record IsCoordinates (A : Columns) (B : ℕ → Bool) (c : ℕ → Rational)
   pub outside : (k : ℕ) → k < A.count → B k ≡ false → c k ≡ whole (pos 0)
   pub sum : (a b : ℕ) → a < A.size → b < A.size → sum_ℚ A.count (λ k. c k *ℚ A.entry k a b) ≡ x a b
 
-pub record IsFree (A : Columns) (B : ℕ → Bool) : Type 0 where
+pub record IsIndependent (A : Columns) (B : ℕ → Bool) : Type 0 where
   pub only_zero : (c : ℕ → Rational) → IsCoordinates A B c (λ a b. whole (pos 0)) → (k : ℕ) → k < A.count → c k ≡ whole (pos 0)
 
 pub record IsBasis (A : Columns) (B : ℕ → Bool) (coord : ℕ → ℕ → Rational) : Type 0 where
-  pub free : IsFree A B
+  pub independent : IsIndependent A B
   pub written : (j : ℕ) → j < A.count → IsCoordinates A B (coord j) (A.entry j)
 
 abbrev pub mark : ℕ → ℕ → Rational
@@ -39,8 +38,8 @@ abbrev pub swapped : (ℕ → Bool) → ℕ → ℕ → ℕ → Bool
 swapped B l e = replaced (replaced B l false) e true
 
 -- x_k - e_k·s beside e and s at e, where s = x_l / e_l
-abbrev pub exchanged : (ℕ → ℕ → Rational) → ℕ → ℕ → ℕ → ℕ → Rational
-exchanged coord l e j k = coord j k +ℚ (coord j l /ℚ coord e l) *ℚ (mark e k +ℚ neg_ℚ (coord e k))
+abbrev pub exchanged_coordinates : (ℕ → ℕ → Rational) → ℕ → ℕ → ℕ → ℕ → Rational
+exchanged_coordinates coord l e j k = coord j k +ℚ (coord j l /ℚ coord e l) *ℚ (mark e k +ℚ neg_ℚ (coord e k))
 
 pub record IsShown (A : Columns) (B : ℕ → Bool) (coord : ℕ → ℕ → Rational) (rows : ℕ) (t : ℕ → ℕ → Rational) (basic : ℕ → ℕ) : Type 0 where
   pub entry : (i j : ℕ) → i < rows → j < A.count → t i j ≡ coord j (basic i)
@@ -48,9 +47,3 @@ pub record IsShown (A : Columns) (B : ℕ → Bool) (coord : ℕ → ℕ → Rat
   pub in_basis : (i : ℕ) → i < rows → B (basic i) ≡ true
   pub every : (k : ℕ) → k < A.count → B k ≡ true → (i : ℕ) × (i < rows) × (basic i ≡ k)
   pub apart : (i j : ℕ) → i < rows → j < rows → i ≢ j → basic i ≢ basic j
-
-pub record IsTableExchange (rows count : ℕ) (t : ℕ → ℕ → Rational) (basic : ℕ → ℕ) (r c : ℕ) (t' : ℕ → ℕ → Rational) (basic' : ℕ → ℕ) : Type 0 where
-  pub pivot_row : (j : ℕ) → j < count → t' r j ≡ t r j /ℚ t r c
-  pub other_rows : (i j : ℕ) → i < rows → j < count → i ≢ r → t' i j ≡ t i j -ℚ t i c *ℚ (t r j /ℚ t r c)
-  pub entering : basic' r ≡ c
-  pub kept : (i : ℕ) → i < rows → i ≢ r → basic' i ≡ basic i

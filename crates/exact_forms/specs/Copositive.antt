@@ -2,12 +2,11 @@
 --
 --     Matrix                       whole entries by row and column
 --     IsCopositive n q             no vector of n places has a negative value Q[x]
---     IsStrictlyCopositive n q     each nonzero vector of n places has a positive value Q[x]
 --     Attains n q m x              x is a nonzero vector of n places with Q[x] = m
 --     ListsAttaining n q m list    the list has each of these once, in increasing order, and nothing else
 --     IsMinimum n q m list         m is the copositive minimum of Q, and the list has its minimal vectors
 --     IsPerfect n list             only the zero matrix has the value zero at each vector of the list
---     IsExtremeRay n r list        R isn't zero and is at least 0 at each vector of the list, and each symmetric Z
+--     IsExtremeRay n r list        R is symmetric, isn't zero and is at least 0 at each vector of the list, and each symmetric Z
 --                                  that is zero where R is zero is a multiple of R
 --
 -- A matrix is a function of row and column, from 0 and below n. A vector has numbers of at least 0.
@@ -21,9 +20,6 @@ Matrix = ℕ → ℕ → ℤ
 
 abbrev pub IsCopositive : ℕ → Matrix → Type 0
 IsCopositive n q = (x : List ℕ) → length x ≡ n → pos 0 ≤ℤ form n q (coordinate x)
-
-abbrev pub IsStrictlyCopositive : ℕ → Matrix → Type 0
-IsStrictlyCopositive n q = (x : List ℕ) → length x ≡ n → IsNonzero n x → pos 1 ≤ℤ form n q (coordinate x)
 
 pub record Attains (n : ℕ) (q : Matrix) (m : ℤ) (x : List ℕ) : Type 0 where
   pub size : length x ≡ n
@@ -45,6 +41,7 @@ pub record IsPerfect (n : ℕ) (vectors : List (List ℕ)) : Type 0 where
   pub only_zero : (z : Matrix) → IsSymmetric n z → All (λ v. form n z (coordinate v) ≡ pos 0) vectors → (i j : ℕ) → i < n → j < n → z i j ≡ pos 0
 
 pub record IsExtremeRay (n : ℕ) (r : Matrix) (vectors : List (List ℕ)) : Type 0 where
+  pub symmetric : IsSymmetric n r
   pub nonzero : ((i j : ℕ) → i < n → j < n → r i j ≡ pos 0) → ⊥
   pub nonnegative : All (λ v. pos 0 ≤ℤ form n r (coordinate v)) vectors
   pub extreme : (z : Matrix) → IsSymmetric n z → All (λ v. form n r (coordinate v) ≡ pos 0 → form n z (coordinate v) ≡ pos 0) vectors

@@ -2,7 +2,7 @@
 --
 --     WeightedVector           a vector with its weight
 --     weighted_sum terms i j   the sum over the terms of weight times x_i·x_j
---     pairing n w a            ⟨W,A⟩, the sum over all rows and columns
+--     inner_ℚ n w a            ⟨W,A⟩, the sum over all rows and columns
 --     IsFactorization n a terms   each weight is positive; each vector has n places and isn't zero; no two vectors
 --                              are equal; at each row and column the weighted sum is the entry of A
 --     Separates n w a          W is copositive and ⟨W,A⟩ is negative
@@ -24,8 +24,8 @@ unfoldable pub weighted_sum : List WeightedVector → ℕ → ℕ → Rational
 weighted_sum [] i j = whole (pos 0)
 weighted_sum (term ∷ terms) i j = term.weight *ℚ whole (coordinate term.vector i *ℤ coordinate term.vector j) +ℚ weighted_sum terms i j
 
-unfoldable pub pairing : ℕ → Matrix → (ℕ → ℕ → Rational) → Rational
-pairing n w a = sum_ℚ n (λ i. sum_ℚ n (λ j. whole (w i j) *ℚ a i j))
+unfoldable pub inner_ℚ : ℕ → Matrix → (ℕ → ℕ → Rational) → Rational
+inner_ℚ n w a = sum_ℚ n (λ i. sum_ℚ n (λ j. whole (w i j) *ℚ a i j))
 
 pub record IsFactorization (n : ℕ) (a : ℕ → ℕ → Rational) (terms : List WeightedVector) : Type 0 where
   pub positive : All (λ term. IsPositive term.weight) terms
@@ -36,4 +36,4 @@ pub record IsFactorization (n : ℕ) (a : ℕ → ℕ → Rational) (terms : Lis
 
 pub record Separates (n : ℕ) (w : Matrix) (a : ℕ → ℕ → Rational) : Type 0 where
   pub copositive : IsCopositive n w
-  pub negative : IsNegative (pairing n w a)
+  pub negative : IsNegative (inner_ℚ n w a)

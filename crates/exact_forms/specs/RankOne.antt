@@ -10,7 +10,7 @@
 use Rattle.std.specs.Prelude.{ℕ, pos, ◌+◌, ◌≡◌, ◌<◌, ◌≤◌, ◌*ℤ◌, List, [], length, slice_index_or}
 use Rattle.exact_forms.specs.Rational.{Rational, whole, ◌*ℚ◌}
 use Rattle.exact_forms.specs.Sums.{sum_ℚ}
-use Rattle.exact_forms.specs.Forms.{unit}
+use Rattle.exact_forms.specs.Forms.{unit_sum}
 use Rattle.exact_forms.specs.Vectors.{coordinate}
 use Rattle.exact_forms.specs.Coordinates.{Columns}
 
@@ -30,4 +30,4 @@ pub record HasVectors (A : Columns) (low : ℕ) (vectors : List (List ℕ)) : Ty
 
 pub record HasUnits (A : Columns) : Type 0 where
   pub units : (i j : ℕ) → i < A.size → j < A.size
-      → (k : ℕ) × (t : Rational) × (k < A.count) × ((a b : ℕ) → a < A.size → b < A.size → t *ℚ A.entry k a b ≡ whole (unit i j a b))
+      → (k : ℕ) × (t : Rational) × (k < A.count) × ((a b : ℕ) → a < A.size → b < A.size → t *ℚ A.entry k a b ≡ whole (unit_sum i j a b))

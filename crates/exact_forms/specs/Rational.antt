@@ -11,8 +11,8 @@
 --
 -- Two pairs (p, q) and (r, s) with q and s of at least 1 have one ratio exactly where p·s ≡ r·q.
 use Rattle.std.specs.Prelude.{ℕ, zero, suc, ℤ, pos, negsuc, neg_ℤ, nat_abs, ◌*◌, ◌/◌, ◌+ℤ◌, ◌*ℤ◌, ◌≤ℤ◌, ◌<ℤ◌, T, ltb, eqb}
-use Rattle.commutative_ring.specs.Gcd.{gcd_of}
-use Rattle.commutative_ring.proofs.Lowest.{divided, part_positive, part_lowest}
+use Rattle.commutative_ring.specs.Gcd.{gcd_of, divided}
+use Rattle.commutative_ring.proofs.Lowest.{part_positive, part_lowest}
 
 pub record Rational : Type 0 where
   pub num : ℤ

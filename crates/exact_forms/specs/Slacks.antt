@@ -5,7 +5,6 @@
 --     slack m g i          h_i, the diagonal entry less the shortfalls of the entries beside it
 --     IsClosed m g b       each slack is at least b
 --     AreNonnegative m a   each coefficient below m is at least 0
---     SomeNonzero m a      some coefficient below m is not 0
 use Rattle.std.specs.Prelude.{ℕ, suc, ℤ, pos, negsuc, ◌≢◌, ◌<◌, ◌-ℤ◌, ◌≤ℤ◌, cond, eqb}
 use Rattle.exact_forms.specs.Sums.{sum_to}
 
@@ -24,6 +23,3 @@ IsClosed m g b = (i : ℕ) → i < m → b ≤ℤ slack m g i
 
 abbrev pub AreNonnegative : ℕ → (ℕ → ℤ) → Type 0
 AreNonnegative m a = (k : ℕ) → k < m → pos 0 ≤ℤ a k
-
-abbrev pub SomeNonzero : ℕ → (ℕ → ℤ) → Type 0
-SomeNonzero m a = (k : ℕ) × (k < m) × (a k ≢ pos 0)

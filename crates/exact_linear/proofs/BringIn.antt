@@ -1,15 +1,15 @@
 -- The columns that are brought in, one after the other.
-use Rattle.std.specs.Prelude.{◌≡◌, ◌≢◌, ℕ, zero, suc, ◌+◌, ◌-◌, ◌<◌, ◌≤◌, ◌⊎◌, ℤ, pos, negsuc, Bool, true, false, not, ◌&&◌, nat_eq, nat_lt, List, [], ◌++◌, Option, Some, None, Ok, Err}
+use Rattle.std.specs.Prelude.{◌≡◌, ◌≢◌, ℕ, zero, suc, ◌+◌, ◌-◌, ◌<◌, ◌≤◌, ◌⊎◌, ℤ, pos, negsuc, Bool, true, false, not, ◌&&◌, nat_eq, nat_lt, List, [], ◌++◌, Option, Some, None, Ok, Err, Result}
 use Rattle.std.proofs.Common.{arith, sym, ◌∙◌, ap, refl, subst, inl, inr}
 use Rattle.exact_forms.specs.Rational.{Rational, whole}
 use Rattle.exact_forms.proofs.Lowest.{zero_num}
-use Rattle.symmetric_matrix.specs.Owed.{answer, first_owed}
-use Rattle.symmetric_matrix.proofs.Owed.{answer-append_err, answer-append_ok, answer_nothing, none_of_ok, some_of_err}
+use Rattle.symmetric_matrix.specs.Owed.{answer}
+use Rattle.symmetric_matrix.proofs.Owed.{answer-append_err, answer-append_ok, answer_nothing, none_of_ok, some_of_err, answer_is_first_owed}
 use Rattle.exact_linear.specs.declared.entry.EntryOp.{EntryOp}
 use Rattle.exact_linear.specs.Tables.{Table, rows_of, table_entry, basic_at, first_place}
 use Rattle.exact_forms.specs.Coordinates.{Columns}
 use Rattle.exact_linear.specs.Columns.{HasCoordinates}
-use Rattle.exact_linear.specs.Exchange.{entry_is_owed, exchange_ops, exchanged, is_zero, takes, first_row, brought_in, bring_ops, first_bases, first_ops, IsStopped}
+use Rattle.exact_linear.specs.Exchange.{entry_is_owed, exchange_ops, exchanged, is_zero, takes, first_row, brought_in, bring_ops, first_bases, first_ops}
 use Rattle.exact_linear.proofs.Places.{first_found, first_none}
 use Rattle.exact_linear.proofs.Exchanges.{exchanged_width, exchanged_rows}
 
@@ -156,17 +156,21 @@ so_far_more t now new k S h e c = record {
   coordinates = λ A H. c A (S.coordinates A H);
 }
 
-pub so_far_stopped : (t now new : Table) (k n : ℕ) (err : EntryOp) → IsSoFar t now k → k < n → new ≡ now → answer entry_is_owed (bring_ops now (rows_of t + k)) (tt {0}) ≡ Err err → IsStopped t n new
-so_far_stopped t now new k n err S l e h = record {
-  done = k;
-  below = l;
-  table = e ∙ S.table;
-  owes = (none_of_ok entry_is_owed (first_ops t k) (tt {0}) (tt {0}) S.owes).0;
-  refused = λ none.
-      let s = some_of_err entry_is_owed (bring_ops now (rows_of t + k)) (tt {0}) err h in
-      let f : first_owed entry_is_owed (bring_ops now (rows_of t + k)) ≡ None = ap (λ (t' : Table). first_owed entry_is_owed (bring_ops t' (rows_of t + k))) (sym e) ∙ none in
-      cc;
-}
+-- the whole answer
+answer_none : {V : Type 0} (ops : List EntryOp) (v : V) → answer entry_is_owed ops (tt {0}) ≡ Ok (tt {0}) → Ok v ≡ answer entry_is_owed ops v
+answer_none {V} ops v h =
+    sym (answer_is_first_owed entry_is_owed ops v
+    ∙ ap (λ (o : Option EntryOp). elim o as (λ _. Result V EntryOp) [ None ↦ Ok v | Some op ↦ Err op ]) (none_of_ok entry_is_owed ops (tt {0}) (tt {0}) h).0)
+
+pub answer_some : {V : Type 0} (ops : List EntryOp) (v : V) (err : EntryOp) → answer entry_is_owed ops (tt {0}) ≡ Err err → Err err ≡ answer entry_is_owed ops v
+answer_some {V} ops v err h =
+    sym (answer_is_first_owed entry_is_owed ops v
+    ∙ ap (λ (o : Option EntryOp). elim o as (λ _. Result V EntryOp) [ None ↦ Ok v | Some op ↦ Err op ]) (some_of_err entry_is_owed ops (tt {0}) err h))
+
+pub so_far_all : (t now : Table) (k n : ℕ) → IsSoFar t now k → k ≡ n → Ok now ≡ answer entry_is_owed (first_ops t n) (first_bases t n)
+so_far_all t now k n S e =
+    subst (λ (n : ℕ). Ok now ≡ answer entry_is_owed (first_ops t n) (first_bases t n)) e
+    (ap (λ (t : Table). Ok t) S.table ∙ answer_none (first_ops t k) (first_bases t k) S.owes)
 
 pub so_far_rows : (t now : Table) (k : ℕ) → IsSoFar t now k → (now.width ≡ t.width) × (rows_of now ≡ rows_of t)
 so_far_rows t now k S = let r = first_shape t k in (ap (λ (t : Table). t.width) S.table ∙ r.0, ap (λ (t : Table). rows_of t) S.table ∙ r.1)

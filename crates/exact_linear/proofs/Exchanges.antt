@@ -7,9 +7,9 @@ use Rattle.exact_forms.specs.Rational.{Rational, whole, ◌*ℚ◌, ◌-ℚ◌, 
 use Rattle.exact_forms.proofs.Rational.{ring_ℚ, div-mul}
 use Rattle.exact_forms.proofs.Slacks.{replaced_here, same_or_not}
 use Rattle.exact_forms.proofs.Signs.{positive_not_zero, one_positive}
-use Rattle.exact_forms.specs.Coordinates.{Columns, IsShown, IsTableExchange, mark, swapped, exchanged as exchanged_coordinates}
+use Rattle.exact_forms.specs.Coordinates.{Columns, IsShown, mark, swapped, exchanged_coordinates}
 use Rattle.exact_forms.proofs.Coordinates.{basis_mark, mark_off, exchange_keeps, true_or_false}
-use Rattle.exact_forms.proofs.Shown.{exchange_shown}
+use Rattle.exact_forms.proofs.Shown.{exchange_shown, IsTableExchange}
 use Rattle.exact_linear.specs.Tables.{Table, IsRectangle, rows_of, table_entry, basic_at}
 use Rattle.exact_linear.specs.Columns.{HasCoordinates}
 use Rattle.exact_linear.specs.Exchange.{exchanged, new_cell}

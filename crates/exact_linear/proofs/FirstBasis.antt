@@ -8,8 +8,9 @@ use Rattle.exact_forms.specs.Rational.{Rational, whole, inverse, neg_ℚ, ◌+�
 use Rattle.exact_forms.proofs.Rational.{zero_mul_ℚ, mul-inverse}
 use Rattle.exact_forms.proofs.Slacks.{replaced_here, replaced_other, same_or_not}
 use Rattle.exact_forms.proofs.Rational.{ring_ℚ}
-use Rattle.exact_forms.specs.Coordinates.{Columns, mark, swapped, exchanged}
-use Rattle.exact_linear.specs.FirstBasis.{IsCombinationBelow, IsFirstSoFar}
+use Rattle.exact_forms.specs.Coordinates.{Columns, mark, swapped, exchanged_coordinates}
+use Rattle.exact_linear.specs.FirstBasis.{IsCombinationBelow}
+use Rattle.exact_linear.proofs.SoFar.{IsFirstSoFar}
 use Rattle.exact_forms.proofs.Coordinates.{mul_zero_ℚ, mark_off, read_off, exchange_keeps, true_or_false}
 
 zero_quotient : (x y : Rational) → x ≡ whole (pos 0) → x /ℚ y ≡ whole (pos 0)
@@ -68,7 +69,7 @@ module _ (A : Columns) (low c : ℕ) (B : ℕ → Bool) (coord : ℕ → ℕ →
       cleared j u a lu t (inr l) = S.cleared j u a l lu t
 
   -- c is not zero at the unit u of the basis: it takes its place
-  pub first_taken : (u : ℕ) → u < low → B u ≡ true → coord c u ≢ whole (pos 0) → IsFirstSoFar A low (c + 1) (swapped B u c) (exchanged coord u c)
+  pub first_taken : (u : ℕ) → u < low → B u ≡ true → coord c u ≢ whole (pos 0) → IsFirstSoFar A low (c + 1) (swapped B u c) (exchanged_coordinates coord u c)
   first_taken u lu bu ne = record {
     basis = exchange_keeps A B coord u c (omega arith) lc bu out ne S.basis;
     first = record {
@@ -96,20 +97,20 @@ module _ (A : Columns) (low c : ℕ) (B : ℕ → Bool) (coord : ℕ → ℕ →
       left k a f (inl e) = absurd (let t : swapped B u c k ≡ swapped B u c c = ap (λ (k : ℕ). swapped B u c k) e in let s = at_c in cc)
       left k a f (inr l) = S.first.left k a l (sym (as_before k (omega arith) (omega arith)) ∙ f)
 
-      unchanged : (j w : ℕ) → coord j u ≡ whole (pos 0) → exchanged coord u c j w ≡ coord j w
+      unchanged : (j w : ℕ) → coord j u ≡ whole (pos 0) → exchanged_coordinates coord u c j w ≡ coord j w
       unchanged j w z =
           ap (λ x. coord j w +ℚ x *ℚ (mark c w +ℚ neg_ℚ (coord c w))) (zero_quotient (coord j u) (coord c u) z)
           ∙ ring_ℚ (coord j w ∷ (mark c w +ℚ neg_ℚ (coord c w)) ∷ []) (v0 ⊕ num (pos 0) ⊗ v1) v0 refl
 
       -- the new coordinates of c itself
-      of_c : (w : ℕ) → w < low → coord c u /ℚ coord c u ≡ whole (pos 1) → exchanged coord u c c w ≡ whole (pos 0)
+      of_c : (w : ℕ) → w < low → coord c u /ℚ coord c u ≡ whole (pos 1) → exchanged_coordinates coord u c c w ≡ whole (pos 0)
       of_c w lw one =
           ap₂ (λ x y. coord c w +ℚ x *ℚ (y +ℚ neg_ℚ (coord c w))) one (mark_off A c w (omega arith))
           ∙ ring_ℚ (coord c w ∷ []) (v0 ⊕ num (pos 1) ⊗ (num (pos 0) ⊕ neg v0)) (num (pos 0)) refl
 
-      cleared : (j w : ℕ) → low ≤ j → w < low → swapped B u c w ≡ true → ((j ≡ c) ⊎ (j < c)) → ((w ≡ u) ⊎ (w ≢ u)) → exchanged coord u c j w ≡ whole (pos 0)
+      cleared : (j w : ℕ) → low ≤ j → w < low → swapped B u c w ≡ true → ((j ≡ c) ⊎ (j < c)) → ((w ≡ u) ⊎ (w ≢ u)) → exchanged_coordinates coord u c j w ≡ whole (pos 0)
       cleared j w a lw t d (inl s) = absurd (let x = replaced_here B u false w s in let y = replaced_other (replaced B u false) c true w (omega arith) in cc)
-      cleared j w a lw t (inl e) (inr n) = ap (λ (j : ℕ). exchanged coord u c j w) e ∙ of_c w lw (itself (coord c u) ne)
+      cleared j w a lw t (inl e) (inr n) = ap (λ (j : ℕ). exchanged_coordinates coord u c j w) e ∙ of_c w lw (itself (coord c u) ne)
         where
           itself : (x : Rational) → x ≢ whole (pos 0) → x /ℚ x ≡ whole (pos 1)
           itself x n = quotient_self x n

@@ -13,3 +13,12 @@ pub mod FirstBasis
 pub mod BringIn
 pub mod Spanning
 pub mod LowerEntries
+pub mod Rectangles
+pub mod Seeking
+pub mod SquareLists
+pub mod SquareColumns
+pub mod Listed
+pub mod FirstTables
+pub mod UnitColumns
+pub mod SoFar
+pub mod Counts

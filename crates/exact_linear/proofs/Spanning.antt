@@ -5,19 +5,19 @@ use Rattle.std.proofs.lemmas.Int.{ints}
 use lib.IntN.{*ℤ_comm, +ℤ_comm}
 use Rattle.exact_forms.proofs.RationalSums.{sum_ℚ_same, sum_ℚ_none, sum_ℚ-add, mul-sum_ℚ, sum_ℚ_one}
 use Rattle.commutative_ring.proofs.Ring.{num, ◌⊕◌, ◌⊗◌, v0, v1, v2, v3, v4}
-use Rattle.exact_forms.specs.Forms.{form, IsSymmetric, unit, mark_ℤ}
+use Rattle.exact_forms.specs.Forms.{form, IsSymmetric, unit_sum, mark_ℤ}
 use Rattle.exact_forms.specs.Rational.{Rational, whole, ◌+ℚ◌, ◌*ℚ◌}
 use Rattle.exact_forms.specs.Sums.{sum_ℚ}
 use Rattle.exact_forms.proofs.Rational.{zero_mul_ℚ, one_mul_ℚ, whole-add, whole-mul, whole_same}
 use Rattle.exact_forms.proofs.Slacks.{replaced_here, replaced_other}
 use Rattle.exact_forms.proofs.Rational.{ring_ℚ}
 use Rattle.exact_forms.specs.Coordinates.{Columns, IsCoordinates, IsBasis}
-use Rattle.exact_linear.specs.FirstBasis.{IsFirstSoFar}
+use Rattle.exact_linear.proofs.SoFar.{IsFirstSoFar}
 use Rattle.exact_forms.specs.Copositive.{IsPerfect}
-use Rattle.exact_forms.specs.Factors.{pairing}
+use Rattle.exact_forms.specs.Factors.{inner_ℚ}
 use Rattle.exact_forms.specs.RankOne.{HasVectors}
 use Rattle.exact_forms.specs.Vectors.{coordinate}
-use Rattle.exact_forms.proofs.Factors.{pairing_whole}
+use Rattle.exact_forms.proofs.Factors.{inner_ℚ_whole}
 use Rattle.exact_forms.proofs.Forms.{form_is_inner}
 use Rattle.exact_forms.proofs.Vectors.{all_from_places}
 use Rattle.exact_forms.proofs.Signs.{positive_not_zero, whole_positive}
@@ -29,7 +29,7 @@ pub record AreUnitsAndVectors (A : Columns) (low : ℕ) (vectors : List (List �
   pub unit_column : ℕ → ℕ → ℕ
   pub times : ℕ → ℕ → Rational
   pub unit_below : (i j : ℕ) → i < A.size → j < A.size → unit_column i j < low
-  pub units : (i j a b : ℕ) → i < A.size → j < A.size → a < A.size → b < A.size → times i j *ℚ A.entry (unit_column i j) a b ≡ whole (unit i j a b)
+  pub units : (i j a b : ℕ) → i < A.size → j < A.size → a < A.size → b < A.size → times i j *ℚ A.entry (unit_column i j) a b ≡ whole (unit_sum i j a b)
   pub has_vectors : HasVectors A low vectors
   pub mirrored : (u a b : ℕ) → u < low → a < A.size → b < A.size → A.entry u a b ≡ A.entry u b a
 
@@ -38,7 +38,7 @@ module _ (A : Columns) (low : ℕ) (vectors : List (List ℕ)) (U : AreUnitsAndV
   abbrev pub at_unit : ℕ → ℕ → ℕ → Rational
   at_unit u i j = U.times i j *ℚ coord (U.unit_column i j) u
 
-  pub unit_coordinates : (i j : ℕ) → i < A.size → j < A.size → IsCoordinates A B (λ k. at_unit k i j) (λ a b. whole (unit i j a b))
+  pub unit_coordinates : (i j : ℕ) → i < A.size → j < A.size → IsCoordinates A B (λ k. at_unit k i j) (λ a b. whole (unit_sum i j a b))
   unit_coordinates i j li lj =
       let l : U.unit_column i j < A.count = (let a = U.unit_below i j li lj in let b = U.has_vectors.within in omega arith) in
       let h = H.written (U.unit_column i j) l in
@@ -51,12 +51,12 @@ module _ (A : Columns) (low : ℕ) (vectors : List (List ℕ)) (U : AreUnitsAndV
             ∙ U.units i j a b li lj la lb;
       }
 
-  mirror : (i j a b : ℕ) → unit i j a b ≡ unit j i a b
+  mirror : (i j a b : ℕ) → unit_sum i j a b ≡ unit_sum j i a b
   mirror i j a b = +ℤ_comm (mark_ℤ i a *ℤ mark_ℤ j b) (mark_ℤ j a *ℤ mark_ℤ i b)
 
   pub at_unit_symmetric : (u i j : ℕ) → u < A.count → i < A.size → j < A.size → at_unit u i j ≡ at_unit u j i
   at_unit_symmetric u i j lu li lj =
-      coordinates_unique A B (λ k. at_unit k i j) (λ k. at_unit k j i) (λ a b. whole (unit i j a b)) (λ a b. whole (unit j i a b)) H.free
+      coordinates_unique A B (λ k. at_unit k i j) (λ k. at_unit k j i) (λ a b. whole (unit_sum i j a b)) (λ a b. whole (unit_sum j i a b)) H.independent
       (unit_coordinates i j li lj) (unit_coordinates j i lj li) (λ a b la lb. ap whole (mirror i j a b)) u lu
 
   -- a matrix x is half the sum of its entries times the units
@@ -68,7 +68,7 @@ module _ (A : Columns) (low : ℕ) (vectors : List (List ℕ)) (U : AreUnitsAndV
       ∙ one_mul_ℚ (f a)
 
   pub twice : (x : ℕ → ℕ → Rational) (a b : ℕ) → a < A.size → b < A.size
-      → sum_ℚ A.size (λ i. sum_ℚ A.size (λ j. x i j *ℚ whole (unit i j a b))) ≡ x a b +ℚ x b a
+      → sum_ℚ A.size (λ i. sum_ℚ A.size (λ j. x i j *ℚ whole (unit_sum i j a b))) ≡ x a b +ℚ x b a
   twice x a b la lb =
       sum_ℚ_same A.size _ _ (λ i li.
       sum_ℚ_same A.size _ _ (λ j lj.
@@ -85,23 +85,23 @@ module _ (A : Columns) (low : ℕ) (vectors : List (List ℕ)) (U : AreUnitsAndV
   pub by_units : (u : ℕ) (c : ℕ → Rational) (x : ℕ → ℕ → Rational) → u < A.count → IsCoordinates A B c x → ((a b : ℕ) → a < A.size → b < A.size → x a b ≡ x b a)
       → c u +ℚ whole (pos 1) *ℚ c u ≡ sum_ℚ A.size (λ i. whole (pos 1) *ℚ sum_ℚ A.size (λ j. x i j *ℚ at_unit u i j))
   by_units u c x lu h s =
-      coordinates_unique A B (λ k. c k +ℚ whole (pos 1) *ℚ c k) _ (λ a b. x a b +ℚ whole (pos 1) *ℚ x a b) _ H.free
+      coordinates_unique A B (λ k. c k +ℚ whole (pos 1) *ℚ c k) _ (λ a b. x a b +ℚ whole (pos 1) *ℚ x a b) _ H.independent
       (coordinates_add A B c c x x (whole (pos 1)) h h)
-      (coordinates_total A B A.size (λ i. whole (pos 1)) (λ i k. sum_ℚ A.size (λ j. x i j *ℚ at_unit k i j)) (λ i a b. sum_ℚ A.size (λ j. x i j *ℚ whole (unit i j a b)))
-      (λ i li. coordinates_total A B A.size (x i) (λ j k. at_unit k i j) (λ j a b. whole (unit i j a b)) (λ j lj. unit_coordinates i j li lj)))
+      (coordinates_total A B A.size (λ i. whole (pos 1)) (λ i k. sum_ℚ A.size (λ j. x i j *ℚ at_unit k i j)) (λ i a b. sum_ℚ A.size (λ j. x i j *ℚ whole (unit_sum i j a b)))
+      (λ i li. coordinates_total A B A.size (x i) (λ j k. at_unit k i j) (λ j a b. whole (unit_sum i j a b)) (λ j lj. unit_coordinates i j li lj)))
       (λ a b la lb. same a b la lb) u lu
     where
-      same : (a b : ℕ) → a < A.size → b < A.size → x a b +ℚ whole (pos 1) *ℚ x a b ≡ sum_ℚ A.size (λ i. whole (pos 1) *ℚ sum_ℚ A.size (λ j. x i j *ℚ whole (unit i j a b)))
+      same : (a b : ℕ) → a < A.size → b < A.size → x a b +ℚ whole (pos 1) *ℚ x a b ≡ sum_ℚ A.size (λ i. whole (pos 1) *ℚ sum_ℚ A.size (λ j. x i j *ℚ whole (unit_sum i j a b)))
       same a b la lb =
           ap (λ w. x a b +ℚ w) (one_mul_ℚ (x a b) ∙ s a b la lb)
           ∙ sym (twice x a b la lb)
-          ∙ sum_ℚ_same A.size _ _ (λ i li. sym (one_mul_ℚ (sum_ℚ A.size (λ j. x i j *ℚ whole (unit i j a b)))))
+          ∙ sum_ℚ_same A.size _ _ (λ i li. sym (one_mul_ℚ (sum_ℚ A.size (λ j. x i j *ℚ whole (unit_sum i j a b)))))
 
   -- the value of a matrix that is e times the coordinates at u of the units
   pub ray_value : (u : ℕ) (e : Rational) (z : ℕ → ℕ → ℤ) (c : ℕ → Rational) (x : ℕ → ℕ → Rational) → u < A.count
       → ((i j : ℕ) → i < A.size → j < A.size → whole (z i j) ≡ e *ℚ at_unit u i j) → IsCoordinates A B c x → ((a b : ℕ) → a < A.size → b < A.size → x a b ≡ x b a)
-      → pairing A.size z x ≡ e *ℚ (c u +ℚ whole (pos 1) *ℚ c u)
-  unfolding pairing
+      → inner_ℚ A.size z x ≡ e *ℚ (c u +ℚ whole (pos 1) *ℚ c u)
+  unfolding inner_ℚ
   ray_value u e z c x lu h hc s =
       sum_ℚ_same A.size _ _ (λ i li.
       sum_ℚ_same A.size _ _ (λ j lj.
@@ -133,7 +133,7 @@ module _ (A : Columns) (low : ℕ) (vectors : List (List ℕ)) (U : AreUnitsAndV
       at_vectors : B u ≡ true → (k : ℕ) → k < length vectors → form A.size Z.whole_numbers (vector k) ≡ pos 0
       at_vectors b k l = whole_same _ (pos 0) (
           ap whole (form_is_inner A.size Z.whole_numbers (vector k))
-          ∙ sym (pairing_whole A.size Z.whole_numbers (λ i j. vector k i *ℤ vector k j) (A.entry (low + k)) (λ i j li lj. U.has_vectors.entry k i j l li lj))
+          ∙ sym (inner_ℚ_whole A.size Z.whole_numbers (λ i j. vector k i *ℤ vector k j) (A.entry (low + k)) (λ i j li lj. U.has_vectors.entry k i j l li lj))
           ∙ ray_value u (whole Z.common) Z.whole_numbers (coord (low + k)) (A.entry (low + k)) lc Z.same (H.written (low + k) (let a = U.has_vectors.within in omega arith))
           (λ a b la lb. U.has_vectors.entry k a b l la lb ∙ ap whole (*ℤ_comm (vector k a) (vector k b)) ∙ sym (U.has_vectors.entry k b a l lb la))
           ∙ ap (λ w. whole Z.common *ℚ w) (two_zero (coord (low + k) u) (S.cleared (low + k) u (omega arith) (omega arith) lu b))

@@ -11,7 +11,7 @@ use Rattle.exact_forms.proofs.Slacks.{replaced_here, replaced_other, same_or_not
 use Rattle.symmetric_matrix.specs.Symmetric.{Symmetric}
 use Rattle.exact_linear.specs.Tables.{Table, rows_of, table_entry, basic_at, cells}
 use Rattle.exact_linear.specs.Columns.{place_in, start_cell, no_matrix, width_of, columns_of, start_table, HasCoordinates}
-use Rattle.exact_linear.specs.FirstBasis.{AreUnits, over_units}
+use Rattle.exact_linear.proofs.SoFar.{AreUnits, over_units}
 use Rattle.exact_linear.proofs.Units.{below, over_below, units_basis}
 use Rattle.exact_linear.proofs.Fill.{cells_at}
 
@@ -93,8 +93,8 @@ start_shown n given = record {
     of_true : (k low : ℕ) → nat_lt k low ≡ true → k < low
     of_true k low e = grind arith
 
-pub start_coordinates : (n : ℕ) (given : List Symmetric) → HasCoordinates (columns_of n given) (start_table n given)
-start_coordinates n given = record {
+pub start_has_coordinates : (n : ℕ) (given : List Symmetric) → HasCoordinates (columns_of n given) (start_table n given)
+start_has_coordinates n given = record {
   basis = λ k. nat_lt k (triangle n);
   coord = over_units (triangle n) (start_cell (triangle n) given);
   width = refl;
@@ -103,23 +103,23 @@ start_coordinates n given = record {
 }
 
 -- ---- the entries, one after the other
-pub start_list : ℕ → ℕ → List Symmetric → ℕ → List Rational
-start_list rows width given n = map (λ k. start_cell rows given (k / width) (k % width)) (range_with_len 0 n)
+pub start_cells : ℕ → ℕ → List Symmetric → ℕ → List Rational
+start_cells rows width given n = map (λ k. start_cell rows given (k / width) (k % width)) (range_with_len 0 n)
 
-pub start_list_none : (rows width : ℕ) (given : List Symmetric) → [] ≡ start_list rows width given 0
-unfolding start_list
-start_list_none rows width given = refl
+pub start_cells_none : (rows width : ℕ) (given : List Symmetric) → [] ≡ start_cells rows width given 0
+unfolding start_cells
+start_cells_none rows width given = refl
 
-pub start_list_more : (rows width : ℕ) (given : List Symmetric) (k : ℕ) (xs ys : List Rational) (x : Rational) → xs ≡ start_list rows width given k → x ≡ start_cell rows given (k / width) (k % width)
-    → ys ≡ xs ++ x ∷ [] → ys ≡ start_list rows width given (k + 1)
-unfolding start_list
-start_list_more rows width given k xs ys x e f g =
+pub start_cells_more : (rows width : ℕ) (given : List Symmetric) (k : ℕ) (xs ys : List Rational) (x : Rational) → xs ≡ start_cells rows width given k → x ≡ start_cell rows given (k / width) (k % width)
+    → ys ≡ xs ++ x ∷ [] → ys ≡ start_cells rows width given (k + 1)
+unfolding start_cells
+start_cells_more rows width given k xs ys x e f g =
     g ∙ ap₂ (λ (xs : List Rational) (x : Rational). xs ++ x ∷ []) e f
     ∙ sym (map-range_with_len_more (λ k. start_cell rows given (k / width) (k % width)) 0 k k (omega arith))
 
-pub start_list_all : (rows width : ℕ) (given : List Symmetric) (k : ℕ) (xs : List Rational) → xs ≡ start_list rows width given k → k ≡ rows * width → xs ≡ cells rows width (start_cell rows given)
-unfolding start_list cells
-start_list_all rows width given k xs e f = e ∙ ap (λ (k : ℕ). map (λ k. start_cell rows given (k / width) (k % width)) (range_with_len 0 k)) f
+pub start_cells_all : (rows width : ℕ) (given : List Symmetric) (k : ℕ) (xs : List Rational) → xs ≡ start_cells rows width given k → k ≡ rows * width → xs ≡ cells rows width (start_cell rows given)
+unfolding start_cells cells
+start_cells_all rows width given k xs e f = e ∙ ap (λ (k : ℕ). map (λ k. start_cell rows given (k / width) (k % width)) (range_with_len 0 k)) f
 
 pub some_units : (n : ℕ) → 1 ≤ n → 1 ≤ triangle n
 unfolding triangle

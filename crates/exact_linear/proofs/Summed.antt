@@ -23,29 +23,25 @@ last_or_not j w = grind arith
 
 module _ (A : Columns) (t : Table) (H : HasCoordinates A t) (F : IsLastFree t) where
   -- how often k is a basic column: 1 in the basis, else 0
-  times : ℕ → Rational
+  abbrev times : ℕ → Rational
   times k = sum_ℚ (rows_of t) (λ i. mark (basic_at t i) k)
 
   times_one : (k : ℕ) → k < A.count → H.basis k ≡ true → times k ≡ whole (pos 1)
-  unfolding times
   times_one k lk b =
       let e = H.shown.every k lk b in
       sum_ℚ_one (rows_of t) (λ i. mark (basic_at t i) k) e.0 e.1 (λ i li ne. mark_off A (basic_at t i) k (λ (s : k ≡ basic_at t i). H.shown.apart i e.0 li e.1 ne (sym s ∙ sym e.2)))
       ∙ replaced_here (λ k. whole (pos 0)) (basic_at t e.0) (whole (pos 1)) k (sym e.2)
 
   times_none : (k : ℕ) → H.basis k ≡ false → times k ≡ whole (pos 0)
-  unfolding times
   times_none k b = sum_ℚ_none (rows_of t) _ (λ i li. mark_off A (basic_at t i) k (λ (s : k ≡ basic_at t i). absurd (let u = H.shown.in_basis i li in let v : H.basis k ≡ H.basis (basic_at t i) = ap H.basis s in cc)))
 
-  pub summed_coord : ℕ → ℕ → Rational
+  abbrev pub summed_coord : ℕ → ℕ → Rational
   summed_coord j k = if nat_eq (j + 1) A.count then times k else H.coord j k
 
   coord_last : (j k : ℕ) → j + 1 ≡ A.count → summed_coord j k ≡ times k
-  unfolding summed_coord
   coord_last j k e = ap (λ (b : Bool). if b then times k else H.coord j k) (at_last j A.count e)
 
   pub coord_other : (j k : ℕ) → j + 1 ≢ A.count → summed_coord j k ≡ H.coord j k
-  unfolding summed_coord
   coord_other j k n = ap (λ (b : Bool). if b then times k else H.coord j k) (not_last j A.count n)
 
   abbrev pub summed : Columns
@@ -75,7 +71,6 @@ module _ (A : Columns) (t : Table) (H : HasCoordinates A t) (F : IsLastFree t) w
       by k lk (inr n) = ap (λ w. c k *ℚ w) (entry_other k a b n)
 
   sum_is : (a b : ℕ) → sum_ℚ A.count (λ k. times k *ℚ A.entry k a b) ≡ sum_ℚ (rows_of t) (λ i. A.entry (basic_at t i) a b)
-  unfolding times
   sum_is a b =
       sum_ℚ_same A.count _ _ (λ k lk. sum_ℚ-mul (A.entry k a b) (rows_of t) (λ i. mark (basic_at t i) k))
       ∙ sum_ℚ_swap A.count (rows_of t) (λ k i. mark (basic_at t i) k *ℚ A.entry k a b)
@@ -83,7 +78,7 @@ module _ (A : Columns) (t : Table) (H : HasCoordinates A t) (F : IsLastFree t) w
 
   pub summed_basis : IsBasis summed H.basis summed_coord
   summed_basis = record {
-    free = record { only_zero = λ c h k lk. H.is_basis.free.only_zero c record { outside = h.outside; sum = λ a b la lb. sym (same_sum c h.outside a b) ∙ h.sum a b la lb } k lk };
+    independent = record { only_zero = λ c h k lk. H.is_basis.independent.only_zero c record { outside = h.outside; sum = λ a b la lb. sym (same_sum c h.outside a b) ∙ h.sum a b la lb } k lk };
     written = λ j lj. by j lj (last_or_not j A.count);
   }
     where

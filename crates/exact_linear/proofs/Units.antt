@@ -8,7 +8,7 @@ use Rattle.exact_forms.proofs.Rational.{zero_mul_ℚ}
 use Rattle.exact_forms.proofs.Slacks.{replaced_here, replaced_other}
 use Rattle.exact_forms.proofs.Rational.{ring_ℚ}
 use Rattle.exact_forms.specs.Coordinates.{Columns, IsCoordinates, IsBasis}
-use Rattle.exact_linear.specs.FirstBasis.{IsFirstSoFar, AreUnits, over_units}
+use Rattle.exact_linear.proofs.SoFar.{IsFirstSoFar, AreUnits, over_units}
 use Rattle.exact_forms.proofs.RationalSums.{sum_ℚ_one}
 use Rattle.exact_forms.proofs.Coordinates.{mul_zero_ℚ}
 
@@ -51,7 +51,7 @@ module _ (A : Columns) (low : ℕ) (place : ℕ → ℕ → ℕ) (cell : ℕ →
 
   pub units_basis : IsBasis A (λ k. nat_lt k low) (over_units low cell)
   units_basis = record {
-    free = record { only_zero = λ c h k lk. zero c h k lk (below_or_not k) };
+    independent = record { only_zero = λ c h k lk. zero c h k lk (below_or_not k) };
     written = λ j lj. record {
       outside = λ k lk b. over_above j k (not_below k low b);
       sum = λ a b la lb.

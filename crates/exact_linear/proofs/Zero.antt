@@ -3,8 +3,7 @@ use Rattle.std.specs.Prelude.{◌≡◌, ℕ, ◌/◌, ◌<◌, ◌^◌, ◌⊎�
 use Rattle.std.proofs.Common.{arith, sym, ◌∙◌, ap, ap₂, refl, subst, inl, inr, lit<}
 use Rattle.std.proofs.lemmas.Int.{ints}
 use native.Mathlib.Nat.{zero-div, div-one, div_self}
-use Rattle.commutative_ring.specs.Gcd.{gcd_of, gcd_steps}
-use Rattle.commutative_ring.proofs.Lowest.{divided}
+use Rattle.commutative_ring.specs.Gcd.{gcd_of, gcd_steps, divided}
 use Rattle.commutative_ring.proofs.Ring.{num, ◌⊕◌, ◌⊗◌, neg, v0}
 use Rattle.exact_forms.specs.Rational.{Rational, ratio, whole, neg_ℚ, ◌*ℚ◌, ◌-ℚ◌, ◌+ℚ◌}
 use Rattle.exact_forms.proofs.Rational.{ring_ℚ, den_positive}

@@ -19,16 +19,14 @@
 --     first_row t c            the first such row
 --     brought_in t c, bring_ops t c    the table after the exchange in that row, if there is one, and its operations
 --     first_bases t k, first_ops t k   the same for the first k columns after the units, one after the other
---     IsStopped t count new    new is the table with fewer than `count` of them, and an operation of the next one does not fit
 --     IsLaidOut                a table of so many rows, and the memory beside it
 --
 -- Rows and columns of tables count from 0. An operation shows its place as it is told, from 1.
-use Rattle.std.specs.Prelude.{ℕ, zero, suc, ◌+◌, ◌*◌, pos, Bool, List, [], ◌∷◌, ◌++◌, map, length, Option, Some, None, not, ◌&&◌, if◌then◌else◌, nat_eq, nat_lt, slice_range, slice_set, slice_index_or, ◌<◌, ◌≡◌, ◌≢◌, ◌≤◌, negsuc, false}
+use Rattle.std.specs.Prelude.{ℕ, zero, suc, ◌+◌, ◌*◌, pos, Bool, List, [], ◌∷◌, ◌++◌, map, length, Option, Some, None, not, ◌&&◌, if◌then◌else◌, nat_eq, nat_lt, slice_range, slice_set, slice_index_or, ◌<◌, ◌≡◌, ◌≤◌, negsuc, false}
 use Rattle.exact_forms.specs.Rational.{Rational, ◌*ℚ◌, ◌-ℚ◌, ◌/ℚ◌}
 use Rattle.fraction128.specs.Recipes.{div_ops, mul_ops, sub_ops}
 use Rattle.symmetric_matrix.specs.declared.operation.IntOp.{IntOp}
 use Rattle.symmetric_matrix.specs.Operations.{is_owed}
-use Rattle.symmetric_matrix.specs.Owed.{first_owed}
 use Rattle.exact_linear.specs.declared.entry.EntryOp.{EntryOp}
 use Rattle.exact_linear.specs.declared.entry.EntryPart.{EntryPart}
 use Rattle.exact_linear.specs.declared.entry.EntryPart.TheVariants.{Divide, Multiply, Subtract}
@@ -123,14 +121,6 @@ first_bases t (suc k) = brought_in (first_bases t k) (rows_of t + k)
 unfoldable pub first_ops : Table → ℕ → List EntryOp
 first_ops t zero = []
 first_ops t (suc k) = first_ops t k ++ bring_ops (first_bases t k) (rows_of t + k)
-
--- bring_in_first stops before `count` columns are in: so many are, and an operation of the next one does not fit
-pub record IsStopped (t : Table) (count : ℕ) (new : Table) : Type 0 where
-  pub done : ℕ
-  pub below : done < count
-  pub table : new ≡ first_bases t done
-  pub owes : first_owed entry_is_owed (first_ops t done) ≡ None
-  pub refused : first_owed entry_is_owed (bring_ops new (rows_of t + done)) ≢ None
 
 pub record IsLaidOut (rows width : ℕ) (entries pivots spare : List Rational) (basic : List ℕ) : Type 0 where
   pub cells : length entries ≡ rows * width

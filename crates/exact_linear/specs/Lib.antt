@@ -2,3 +2,5 @@ pub mod Tables
 pub mod Columns
 pub mod Exchange
 pub mod FirstBasis
+pub mod Squares
+pub mod Separation

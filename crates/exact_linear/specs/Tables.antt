@@ -9,9 +9,16 @@
 --     cells rows width f  the entries of a table that has f i j at row i, column j
 --     first_place test i n     the first of the n places from i on that passes the test
 --     places_where test i n    those of the n places from i on that pass the test, in their order
+--     or_zero o, is_there o    the number that may be there, or 0; whether it is there
+--     from_one o               a number that may be there, counted from 1 in place of 0
+--     holds t c i              the basic column of row i is c
+--     row_of t c               that row
+--     is_basic t c             c is basic in some row
+--     coordinate_in t j c      the entry of column j in the row of the basic column c, or 0 where c is not basic
+--     contains cs c            c is in the list
 --
 -- Rows, columns and places count from 0.
-use Rattle.std.specs.Prelude.{ℕ, zero, suc, ◌+◌, ◌*◌, ◌/◌, ◌%◌, pos, Bool, List, [], ◌∷◌, map, length, Option, Some, None, if◌then◌else◌, slice_index_or, ◌≡◌, ◌≤◌, ◌<◌}
+use Rattle.std.specs.Prelude.{ℕ, zero, suc, ◌+◌, ◌*◌, ◌/◌, ◌%◌, pos, Bool, true, false, ◌||◌, List, [], ◌∷◌, map, length, Option, Some, None, if◌then◌else◌, nat_eq, slice_index_or, ◌≡◌, ◌≤◌, ◌<◌}
 use Rattle.std.specs.List.{range_with_len}
 use Rattle.exact_forms.specs.Rational.{Rational, whole}
 
@@ -42,6 +49,34 @@ first_place test i (suc n) = if test i then Some i else first_place test (i + 1)
 unfoldable pub places_where : (ℕ → Bool) → ℕ → ℕ → List ℕ
 places_where test i zero = []
 places_where test i (suc n) = if test i then i ∷ places_where test (i + 1) n else places_where test (i + 1) n
+
+abbrev pub or_zero : Option ℕ → ℕ
+or_zero (Some i) = i
+or_zero None = 0
+
+abbrev pub is_there : Option ℕ → Bool
+is_there (Some i) = true
+is_there None = false
+
+abbrev pub from_one : Option ℕ → Option ℕ
+from_one (Some i) = Some (i + 1)
+from_one None = None
+
+abbrev pub holds : Table → ℕ → ℕ → Bool
+holds t c i = nat_eq (basic_at t i) c
+
+unfoldable pub row_of : Table → ℕ → Option ℕ
+row_of t c = first_place (holds t c) 0 (rows_of t)
+
+abbrev pub is_basic : Table → ℕ → Bool
+is_basic t c = is_there (row_of t c)
+
+abbrev pub coordinate_in : Table → ℕ → ℕ → Rational
+coordinate_in t j c = elim (row_of t c) as (λ _. Rational) [ None ↦ whole (pos 0) | Some i ↦ table_entry t i j ]
+
+abbrev pub contains : List ℕ → ℕ → Bool
+contains [] x = false
+contains (y ∷ ys) x = nat_eq y x || contains ys x
 
 pub record IsRectangle (t : Table) : Type 0 where
   pub cells : length t.entries ≡ rows_of t * t.width

@@ -1,6 +1,6 @@
 //! The arithmetic of one entry: a refused operation is told with its place.
 
-ghost use Rattle.std.specs.Prelude.{◌≡◌, ◌≢◌, ◌<◌, ◌⊎◌, pos};
+ghost use Rattle.std.specs.Prelude.{◌≡◌, ◌≢◌, ◌<◌, ◌≤◌, ◌-◌, ◌⊎◌, pos};
 ghost use Rattle.exact_forms.specs.Rational.{whole, ◌*ℚ◌, ◌-ℚ◌, ◌/ℚ◌};
 ghost use Rattle.symmetric_matrix.specs.Owed.{answer, tagged};
 ghost use Rattle.exact_linear.specs.Exchange.{entry_is_owed, placed, divide_entry, multiply_entry, subtract_entry, clear_entry, cell_ops, new_cell};
@@ -56,9 +56,27 @@ fn at_entry(
     }
 }
 
-/// The quotient of two entries, for the row and column that are counted from 0.
-#[tactic(auto, using(crate::proofs::Entries::divide_tagged))]
+/// The quotient of two fractions of a tableau, where entries are divided only to be compared. `row` and `column` are the place of
+/// the one that is divided, counted from 1.
+///
+/// It is refused exactly where an operation of the division does not fit: with the first one, told with that place.
 pub fn divided_entry(
+    row: usize,
+    column: usize,
+    left: Fraction,
+    right: Fraction,
+) -> Result<Fraction, EntryOp>
+    requires first_row { 1 ≤ row }
+    requires first_column { 1 ≤ column }
+    requires divisor { right ≢ whole (pos 0) }
+    ensures { result ≡ answer entry_is_owed (divide_entry (row - 1) (column - 1) left right) (left /ℚ right) }
+{
+    divided_at(row - 1, column - 1, left, right)
+}
+
+// Rows and columns count from 0 from here on.
+#[tactic(auto, using(crate::proofs::Entries::divide_tagged))]
+pub fn divided_at(
     row: usize,
     column: usize,
     left: Fraction,

@@ -2,8 +2,12 @@
 #![tactic(auto)]
 
 mod entry;
+mod indices;
 mod pivot;
+mod squares;
 mod tableau;
 
 pub use entry::{EntryOp, EntryPart, divided_entry};
+pub use indices::contains;
+pub use squares::square;
 pub use tableau::Tableau;

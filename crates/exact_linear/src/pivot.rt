@@ -6,7 +6,7 @@ ghost use Rattle.symmetric_matrix.specs.Owed.{answer};
 ghost use Rattle.exact_linear.specs.Tables.{entry_of};
 ghost use Rattle.exact_linear.specs.Exchange.{entry_is_owed, divide_ops, divided_row, rest_ops, rest_cells, table_ops, table_cells};
 
-use crate::entry::{EntryOp, divided_entry, new_entry};
+use crate::entry::{EntryOp, divided_at, new_entry};
 use fraction128::Fraction;
 
 // `into` becomes `from` divided by the pivot.
@@ -23,7 +23,7 @@ fn divide_row(
     ensures made { IfOk result (λ _. into.new ≡ divided_row pivot from.now) }
 {
     for j in 0..from.len() {
-        into[j] = divided_entry(row, j, from[j], pivot)?;
+        into[j] = divided_at(row, j, from[j], pivot)?;
     }
     Ok(())
 }

@@ -6,9 +6,9 @@ ghost use Rattle.exact_forms.specs.Coordinates.{Columns};
 ghost use Rattle.exact_forms.specs.Triangles.{triangle};
 ghost use Rattle.symmetric_matrix.specs.Owed.{answer};
 ghost use Rattle.std.specs.List.{range_with_len};
-ghost use Rattle.exact_linear.specs.Tables.{rows_of, table_entry, basic_at, cells, entry_of, IsRectangle};
+ghost use Rattle.exact_linear.specs.Tables.{rows_of, table_entry, basic_at, row_of as the_row_of, from_one, cells, entry_of, IsRectangle};
 ghost use Rattle.exact_linear.specs.Columns.{start_cell, no_matrix, columns_of, start_table, with_sum, with_sum_of, HasCoordinates, IsLastFree};
-ghost use Rattle.exact_linear.specs.Exchange.{entry_is_owed, exchange_ops, exchanged, first_row, brought_in, bring_ops, first_bases, first_ops, IsStopped};
+ghost use Rattle.exact_linear.specs.Exchange.{entry_is_owed, exchange_ops, exchanged, first_row, brought_in, bring_ops, first_bases, first_ops};
 
 use crate::entry::EntryOp;
 use crate::pivot::exchange_into;
@@ -66,6 +66,20 @@ impl Tableau {
         ensures { result ≡ basic_at self.now (row - 1) + 1 }
     {
         self.basic[row - 1] + 1
+    }
+
+    /// The row in which a column is basic, if there is one; both count from 1.
+    pub fn row_of(&self, column: usize) -> Option<usize>
+        requires first { 1 ≤ column }
+        requires last { column ≤ self.now.width }
+        ensures { result ≡ from_one (the_row_of self.now (column - 1)) }
+    {
+        for row in 0..self.rows() {
+            if self.basic(row + 1) == column {
+                return Some(row + 1);
+            }
+        }
+        None
     }
 
     /// The entry at a row and a column, counted from 1.
@@ -169,23 +183,21 @@ impl Tableau {
         None
     }
 
-    /// Brings in the first `count` columns after the units, one after the other.
+    /// Brings in the first `count` columns after the units, one after the other, and gives the tableau back.
     ///
-    /// It is refused as the exchanges are, with the first operation that does not fit. Then the columns before the one that is
-    /// refused have been brought in, and nothing else has changed.
-    pub fn bring_in_first(&mut self, count: usize) -> Result<(), EntryOp>
-        requires { rows_of self.old + count ≤ self.old.width }
-        ensures refused { result ≡ answer entry_is_owed (first_ops self.old count) tt }
-        ensures made { IfOk result (λ _. self.new ≡ first_bases self.old count) }
-        ensures stopped { IfErr result (λ _. IsStopped self.old count self.new) }
-        ensures coordinates { (A : Columns) → HasCoordinates A self.old → HasCoordinates A self.new }
+    /// It is refused as the exchanges are, with the first operation that does not fit; then there is no tableau any more.
+    pub fn bring_in_first(self, count: usize) -> Result<Tableau, EntryOp>
+        requires { rows_of self + count ≤ self.width }
+        ensures made { result ≡ answer entry_is_owed (first_ops self count) (first_bases self count) }
+        ensures coordinates { IfOk result (λ t. (A : Columns) → HasCoordinates A self → HasCoordinates A t) }
     {
-        let rows = self.rows();
-        let _width = self.columns();
+        let mut tableau = self;
+        let rows = tableau.rows();
+        let _width = tableau.columns();
         for k in 0..count {
-            self.bring_in(rows + k + 1)?;
+            tableau.bring_in(rows + k + 1)?;
         }
-        Ok(())
+        Ok(tableau)
     }
 
     /// The tableau over the n(n+1)/2 units, whose columns are the units, the given matrices of `n` rows, and one reserved

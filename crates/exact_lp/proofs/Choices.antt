@@ -1,19 +1,19 @@
 -- The choices on a table, as loops make them.
 use Rattle.std.specs.Prelude.{◌≡◌, ◌≢◌, ℕ, suc, ◌+◌, ◌-◌, ◌<◌, ◌≤◌, ℤ, pos, negsuc, Bool, true, false, not, ◌&&◌, List, [], ◌∷◌, ◌++◌, length, drop, get_or, Option, Some, None, IfSome, Ok, Err, if◌then◌else◌, nat_eq, nat_lt}
-use Rattle.std.proofs.Common.{arith, sym, ◌∙◌, ap, ap₂, subst, drop-cons, drop_of_length-le, append-nil}
+use Rattle.std.proofs.Common.{arith, sym, ◌∙◌, ap, ap₂, subst, drop_of_length-le, append-nil}
 use Rattle.std.specs.declared.cmp.Ordering.{Ordering}
 use Rattle.std.specs.declared.cmp.Ordering.TheVariants.{Less, Equal, Greater}
 use Rattle.exact_forms.specs.Rational.{Rational, whole}
 use Rattle.fraction128.specs.Order.{order_of}
 use Rattle.symmetric_matrix.specs.Owed.{answer}
 use Rattle.symmetric_matrix.proofs.Owed.{answer-append_err, answer-append_ok, answer_nothing}
+use Rattle.exact_linear.proofs.Seeking.{IsSeeking, seek_start, seek_start_zero, IsGathered, gather_start, drop_at}
 use Rattle.exact_linear.specs.declared.entry.EntryOp.{EntryOp}
-use Rattle.exact_linear.specs.Tables.{Table, rows_of, table_entry, basic_at, first_place, places_where}
+use Rattle.exact_linear.specs.Tables.{Table, rows_of, table_entry, basic_at, first_place, places_where, is_there, or_zero, holds, row_of, is_basic}
 use Rattle.exact_linear.specs.Exchange.{entry_is_owed, divide_entry}
 use Rattle.exact_linear.proofs.BringIn.{is_zero_of}
 use Rattle.exact_linear.proofs.Places.{first_found}
-use Rattle.exact_lp.specs.Rule.{target, top, is_negative, is_positive, is_there, or_zero, is_inside, holds, row_of, is_basic, first_columns, is_below, is_settled, is_lower, least_row, goes_down, top_row, entering, ratio_at, beats, versus_ops, is_candidate, better, better_ops, leaving_row, leaving_ops}
-use Rattle.exact_lp.proofs.Seeking.{IsSeeking, seek_start, seek_start_zero, IsGathered, gather_start}
+use Rattle.exact_lp.specs.Rule.{target, top, is_negative, is_positive, is_inside, first_columns, is_below, is_settled, is_lower, least_row, goes_down, top_row, entering, ratio_at, beats, versus_ops, is_candidate, better, better_ops, leaving_row, leaving_ops}
 
 -- ---- tests of numbers
 pub positive_not_zero_test : (x : Rational) → is_positive x ≡ true → x ≢ whole (pos 0)
@@ -27,16 +27,6 @@ positive_not_zero_test x h e = by x.num h (is_zero_of x e)
     by (negsuc n) h k = cc
 
 -- ---- the first places
-pub seek_row : (t : Table) (c : ℕ) → IsSeeking (row_of t c) (holds t c) 0 (rows_of t)
-unfolding row_of
-seek_row t c = seek_start_zero (holds t c) (rows_of t)
-
-pub holds_yes : (t : Table) (c i : ℕ) → basic_at t i ≡ c → holds t c i ≡ true
-holds_yes t c i e = grind arith
-
-pub holds_no : (t : Table) (c i : ℕ) → basic_at t i ≢ c → holds t c i ≡ false
-holds_no t c i n = grind arith
-
 pub seek_below : (t : Table) (m : ℕ) → IsSeeking (first_place (is_below t m) 0 (rows_of t)) (is_below t m) 0 (rows_of t)
 seek_below t m = seek_start_zero (is_below t m) (rows_of t)
 
@@ -85,9 +75,6 @@ lower_is t m b i o e = ap (λ (o : Ordering). elim o as (λ _. Bool) [ Less ↦ 
 -- ---- a comparison
 pub record IsComparing (t : Table) (e b i : ℕ) (cs : List ℕ) (k : ℕ) : Type 0 where
   pub same : answer entry_is_owed (versus_ops t e b i cs) (beats t e b i cs) ≡ answer entry_is_owed (versus_ops t e b i (drop k cs)) (beats t e b i (drop k cs))
-
-pub drop_at : (cs : List ℕ) (k c : ℕ) → k < length cs → c ≡ get_or cs k 0 → drop k cs ≡ c ∷ drop (k + 1) cs
-drop_at cs k c l e = drop-cons cs k 0 l ∙ ap₂ (λ (c : ℕ) (n : ℕ). c ∷ drop n cs) (sym e) (let n : suc k ≡ k + 1 = omega arith in n)
 
 at_column : (t : Table) (e b i : ℕ) (cs : List ℕ) (k c : ℕ) → IsComparing t e b i cs k → k < length cs → c ≡ get_or cs k 0
     → answer entry_is_owed (versus_ops t e b i cs) (beats t e b i cs) ≡ answer entry_is_owed (versus_ops t e b i (c ∷ drop (k + 1) cs)) (beats t e b i (c ∷ drop (k + 1) cs))

@@ -4,7 +4,7 @@ use Rattle.std.proofs.Common.{arith, refl, subst, sym, inl, lit≤}
 use Rattle.exact_forms.specs.Triangles.{triangle}
 use Rattle.exact_forms.specs.Vectors.{ComesBefore}
 use Rattle.symmetric_matrix.specs.Lists.{IsVector, CanFollow}
-use Rattle.symmetric_matrix.specs.Symmetric.{IsNarrow, IsLower}
+use Rattle.symmetric_matrix.specs.Symmetric.{FitsInt, IsLower}
 use Rattle.symmetric_matrix.specs.StartVectors.{start_list, late_runs, runs_from, run_vector, run_digit}
 
 pub two_vector : (a b : ℕ) → a ≤ 2 ^ 62 → b ≤ 2 ^ 62 → IsVector (a ∷ b ∷ [])
@@ -61,23 +61,23 @@ fourth_follows = subst (λ (xs : List (List ℕ)). CanFollow xs (2 ∷ 1 ∷ [])
     last : (k : ℕ) → k + 1 ≡ length three → ComesBefore (slice_index_or three k []) (2 ∷ 1 ∷ [])
     last k e = subst (λ (k : ℕ). ComesBefore (slice_index_or three k []) (2 ∷ 1 ∷ [])) (let f : 2 ≡ k = omega arith in f) (inl (omega arith))
 
-pub three_entries : (a b c : ℤ) → IsNarrow a → IsNarrow b → IsNarrow c → IsLower 2 (a ∷ b ∷ c ∷ [])
+pub three_entries : (a b c : ℤ) → FitsInt a → FitsInt b → FitsInt c → IsLower 2 (a ∷ b ∷ c ∷ [])
 unfolding triangle
-three_entries a b c ha hb hc = record { entries = refl; narrow = narrow }
+three_entries a b c ha hb hc = record { entries = refl; fits = fits }
   where
-    narrow : (k : ℕ) → k < length (a ∷ b ∷ c ∷ []) → IsNarrow (slice_index_or (a ∷ b ∷ c ∷ []) k (pos 0))
-    narrow zero l = ha
-    narrow (suc zero) l = hb
-    narrow (suc (suc zero)) l = hc
-    narrow (suc (suc (suc k))) l = absurd (omega arith)
+    fits : (k : ℕ) → k < length (a ∷ b ∷ c ∷ []) → FitsInt (slice_index_or (a ∷ b ∷ c ∷ []) k (pos 0))
+    fits zero l = ha
+    fits (suc zero) l = hb
+    fits (suc (suc zero)) l = hc
+    fits (suc (suc (suc k))) l = absurd (omega arith)
 
-pub one_entry : (a : ℤ) → IsNarrow a → IsLower 1 (a ∷ [])
+pub one_entry : (a : ℤ) → FitsInt a → IsLower 1 (a ∷ [])
 unfolding triangle
-one_entry a h = record { entries = refl; narrow = narrow }
+one_entry a h = record { entries = refl; fits = fits }
   where
-    narrow : (k : ℕ) → k < length (a ∷ []) → IsNarrow (slice_index_or (a ∷ []) k (pos 0))
-    narrow zero l = h
-    narrow (suc k) l = absurd (omega arith)
+    fits : (k : ℕ) → k < length (a ∷ []) → FitsInt (slice_index_or (a ∷ []) k (pos 0))
+    fits zero l = h
+    fits (suc k) l = absurd (omega arith)
 
 abbrev pub double : List (List ℕ)
 double = (2 ∷ []) ∷ []

@@ -10,18 +10,18 @@ use Rattle.exact_forms.proofs.RationalSums.{sum_ℚ_same}
 use Rattle.exact_forms.proofs.Signs.{whole_nonneg, total_nonneg}
 use Rattle.exact_forms.proofs.Coordinates.{true_or_false}
 use Rattle.symmetric_matrix.specs.Symmetric.{Symmetric}
-use Rattle.exact_linear.specs.Tables.{Table, rows_of, basic_at}
+use Rattle.exact_linear.proofs.Listed.{IsPassing, places_pass, places_increase, places_all, basic_row, row_basic, sum_listed}
+use Rattle.exact_linear.proofs.FirstTables.{IsFirstTable, first_coordinates}
+use Rattle.exact_linear.specs.Tables.{Table, rows_of, basic_at, is_basic}
 use Rattle.exact_linear.specs.Columns.{IsLastFree}
 use Rattle.exact_linear.proofs.Summed.{summed_coord, summed_basis}
-use Rattle.exact_lp.specs.Rule.{is_basic, first_columns}
-use Rattle.exact_lp.specs.Placement.{first_table, firsts}
+use Rattle.exact_lp.specs.Rule.{first_columns}
+use Rattle.exact_lp.specs.Placement.{first_table, firsts, problem_of}
 use Rattle.exact_lp.specs.Program.{Program, IsProgram, IsNonnegativeProgram}
-use Rattle.exact_lp.specs.Squares.{problem_of}
-use Rattle.exact_lp.proofs.SquareLists.{IsStart, start_is}
 use Rattle.exact_lp.proofs.Placing.{last_free}
 use Rattle.exact_lp.proofs.Right.{all_columns, other_column, start_columns, low_of, count_is, vector_entry_is}
-use Rattle.exact_lp.proofs.FirstBasis.{IsFirstTable, first_coordinates, no_unit_left}
-use Rattle.exact_lp.proofs.Listed.{IsPassing, places_pass, places_increase, places_all, basic_row, row_basic, sum_listed}
+use Rattle.exact_lp.proofs.FirstBasis.{no_unit_left}
+use Rattle.exact_lp.proofs.Starting.{IsStart, start_is}
 
 -- ---- the columns of the first basis, in a list
 pub first_pass : (t : Table) (m k : ℕ) → k < length (first_columns t m) → IsPassing (is_basic t) (rows_of t) m (slice_index_or (first_columns t m) k 0)
@@ -37,8 +37,8 @@ unfolding first_columns
 first_all t m c h f b = places_all (is_basic t) (rows_of t) m c h f b
 
 -- ---- the columns
-abbrev pub program_of : List (List ℕ) → Symmetric → ℤ → (ℕ → Bool) → Program
-program_of vectors s d chosen = record {
+abbrev pub program_with : List (List ℕ) → Symmetric → ℤ → (ℕ → Bool) → Program
+program_with vectors s d chosen = record {
   columns = all_columns vectors s d;
   low = low_of s;
   high = low_of s + length vectors;
@@ -65,7 +65,7 @@ module _ (vectors : List (List ℕ)) (s : Symmetric) (d : ℤ) (some : 1 ≤ s.s
   first_coord = summed_coord (start_columns vectors s) the_first (first_coordinates (start_columns vectors s) (low_of s) (low_of s + length vectors) the_first F) first_free
 
   abbrev pub the_program : Program
-  the_program = program_of vectors s d F.basis
+  the_program = program_with vectors s d F.basis
 
   size : (start_columns vectors s).count ≡ low_of s + length vectors + 2
   size = count_is vectors s

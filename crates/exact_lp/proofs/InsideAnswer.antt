@@ -3,21 +3,21 @@ use Rattle.std.specs.Prelude.{◌≡◌, ℕ, ◌+◌, ◌<◌, ◌≤◌, ℤ, 
 use Rattle.std.proofs.Common.{arith, sym, ◌∙◌, ap, refl, subst}
 use Rattle.std.proofs.lemmas.List.FromFn.{length-map-range_with_len}
 use Rattle.exact_forms.specs.Rational.{Rational, whole, ◌/ℚ◌}
-use Rattle.exact_forms.specs.Coordinates.{swapped, exchanged}
+use Rattle.exact_forms.specs.Coordinates.{swapped, exchanged_coordinates}
 use Rattle.exact_forms.specs.Copositive.{IsPerfect}
 use Rattle.symmetric_matrix.specs.Symmetric.{Symmetric}
+use Rattle.exact_linear.proofs.FirstTables.{IsFirstTable, read_first}
 use Rattle.exact_linear.specs.Tables.{Table}
 use Rattle.exact_lp.specs.Rule.{is_inside}
-use Rattle.exact_lp.specs.Placement.{Problem, first_table, firsts, table_after, opened, is_settled_first, is_last, last_table, coefficient, weights, steps_of, IsStepDue, IsInsideAfter}
+use Rattle.exact_lp.specs.Placement.{Problem, first_table, firsts, table_after, opened, is_settled_first, is_last, last_table, coefficient, weights, steps_of, IsStepDue, IsInsideAfter, problem_of}
 use Rattle.exact_lp.specs.Simplex.{basis_after, coordinates_after}
-use Rattle.exact_lp.specs.Squares.{problem_of}
 use Rattle.exact_lp.specs.Weights.{AreWeights}
 use Rattle.exact_lp.specs.Program.{Program, IsProgram, IsNonnegativeProgram}
-use Rattle.exact_lp.proofs.FirstBasis.{IsFirstTable, first_shown}
+use Rattle.exact_lp.proofs.FirstBasis.{first_shown}
 use Rattle.exact_lp.proofs.FirstProgram.{the_program, first_coord, is_program, is_nonnegative}
 use Rattle.exact_lp.proofs.InsideRight.{inside_right, settled_right}
 use Rattle.exact_lp.proofs.Opening.{place, opened_tableau}
-use Rattle.exact_lp.proofs.Right.{start_columns, low_of}
+use Rattle.exact_lp.proofs.Right.{start_columns, low_of, count_is}
 use Rattle.exact_lp.proofs.Runs.{tableau_at}
 use Rattle.exact_lp.proofs.Tableaux.{IsTableau}
 
@@ -34,8 +34,12 @@ module _ (vectors : List (List ℕ)) (s : Symmetric) (d : ℤ) (some : 1 ≤ s.s
   abbrev p : Problem
   p = problem_of vectors s d
 
-  pub the_basis : IsFirstTable (start_columns vectors s) (low_of s) (low_of s + length vectors) (first_table p)
-  the_basis = first_shown vectors s
+  pub looked_at : low_of s + length vectors ≤ (start_columns vectors s).count
+  looked_at = let c = count_is vectors s in omega arith
+
+  -- the first basis, read from its table
+  abbrev pub the_basis : IsFirstTable (start_columns vectors s) (low_of s) (low_of s + length vectors) (first_table p)
+  the_basis = read_first (start_columns vectors s) (low_of s) (low_of s + length vectors) (first_table p) (first_shown vectors s) looked_at
 
   abbrev pub linear_program : Program
   linear_program = the_program vectors s d some sizes perfect the_basis
@@ -52,7 +56,7 @@ module _ (vectors : List (List ℕ)) (s : Symmetric) (d : ℤ) (some : 1 ≤ s.s
   open_basis = swapped linear_program.chosen (linear_program.first least) linear_program.top
 
   abbrev pub open_coord : ℕ → ℕ → Rational
-  open_coord = exchanged start (linear_program.first least) linear_program.top
+  open_coord = exchanged_coordinates start (linear_program.first least) linear_program.top
 
   pub is_linear_program : IsProgram linear_program start
   is_linear_program = is_program vectors s d some sizes perfect the_basis
@@ -63,7 +67,7 @@ module _ (vectors : List (List ℕ)) (s : Symmetric) (d : ℤ) (some : 1 ≤ s.s
   pub first_tableau : IsTableau linear_program (table_after p 0) (length vectors) (firsts p) open_basis open_coord
   unfolding table_after
   first_tableau =
-      subst (λ (k : ℕ). IsTableau linear_program (opened (first_table p) (length vectors)) (length vectors) (firsts p) (swapped linear_program.chosen k linear_program.top) (exchanged start k linear_program.top))
+      subst (λ (k : ℕ). IsTableau linear_program (opened (first_table p) (length vectors)) (length vectors) (firsts p) (swapped linear_program.chosen k linear_program.top) (exchanged_coordinates start k linear_program.top))
       (sym (place vectors s d some sizes perfect the_basis).2) (opened_tableau vectors s d some sizes perfect the_basis)
 
   -- the table after k steps shows a state

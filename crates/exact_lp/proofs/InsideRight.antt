@@ -16,18 +16,17 @@ use Rattle.exact_forms.proofs.Signs.{positive_nonneg, positive_inverse, nonneg_p
 use Rattle.exact_forms.proofs.Slacks.{replaced_other}
 use Rattle.exact_forms.proofs.Coordinates.{true_or_false}
 use Rattle.symmetric_matrix.specs.Symmetric.{Symmetric, entry}
-use Rattle.exact_linear.specs.Tables.{Table, rows_of, table_entry, basic_at, first_place}
+use Rattle.exact_linear.proofs.Listed.{contains_at, contained, basic_row, row_basic, sum_listed}
+use Rattle.exact_linear.proofs.FirstTables.{IsFirstTable, first_coordinates}
+use Rattle.exact_linear.specs.Tables.{Table, rows_of, table_entry, basic_at, first_place, is_there, holds, row_of, is_basic, contains}
 use Rattle.exact_linear.proofs.Places.{first_found, first_none}
 use Rattle.exact_linear.proofs.Summed.{coord_other}
-use Rattle.exact_lp.specs.Rule.{target, top, is_there, holds, row_of, is_basic, is_below, is_settled, is_inside}
-use Rattle.exact_lp.specs.Placement.{contains, at_target, is_raised, coefficient, weights, first_table}
-use Rattle.exact_lp.specs.Program.{Program, IsProgram, IsFactored, weight}
-use Rattle.exact_lp.specs.Squares.{problem_of}
+use Rattle.exact_lp.specs.Rule.{target, top, is_below, is_settled, is_inside}
+use Rattle.exact_lp.specs.Placement.{at_target, is_raised, coefficient, weights, first_table, problem_of}
+use Rattle.exact_lp.specs.Program.{Program, IsProgram, weight}
 use Rattle.exact_lp.specs.Weights.{AreWeights}
 use Rattle.exact_lp.proofs.Right.{not_negative_fact, start_columns, low_of, count_is, vector_entry_is, target_entry_is}
-use Rattle.exact_lp.proofs.Outcome.{inside_factors}
-use Rattle.exact_lp.proofs.FirstBasis.{IsFirstTable, first_coordinates}
-use Rattle.exact_lp.proofs.Listed.{contains_at, contained, basic_row, row_basic, sum_listed}
+use Rattle.exact_lp.proofs.Outcome.{IsFactored, inside_factors}
 use Rattle.exact_lp.proofs.FirstProgram.{the_first, the_program, first_free, first_coord, is_program, basic_vector}
 use Rattle.exact_lp.proofs.Opening.{at_basic}
 use Rattle.exact_lp.proofs.Tableaux.{IsTableau}

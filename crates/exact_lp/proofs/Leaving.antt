@@ -10,7 +10,7 @@ use Rattle.exact_forms.proofs.Slacks.{replaced_here, same_or_not}
 use Rattle.exact_forms.proofs.Rational.{ring_ℚ, div-mul}
 use Rattle.exact_forms.specs.Signs.{IsNonnegative}
 use Rattle.exact_forms.specs.Lexicographic.{IsLexBelow}
-use Rattle.exact_lp.specs.Program.{Program, IsProgram, IsEntering, IsCandidate, IsLeaving, IsState, ratios, IsNonnegativeProgram}
+use Rattle.exact_lp.specs.Program.{Program, IsProgram, IsEntering, MayLeave, IsLeaving, IsState, ratios, IsNonnegativeProgram}
 use Rattle.exact_forms.proofs.Signs.{Sign, above, none, below, sign_of, positive_not_zero, positive_nonneg, nonneg_product, nonneg_zero, not_both, total_nonneg, negative_opposite, negative_not_nonneg}
 use Rattle.exact_forms.proofs.Lexicographic.{LexSign, lex_above, lex_none, lex_below_zero, lex_sign, lex_same, lex_below, lex_difference, lex_add, lex_not_both}
 use Rattle.exact_forms.proofs.Coordinates.{mark_off, basis_mark, read_off, coordinates_same, true_or_false}
@@ -63,7 +63,7 @@ search_below D N test (suc n) = by (search_below D N test n) (test n)
 
 module _ (P : Program) (B : ℕ → Bool) (coord start : ℕ → ℕ → Rational) (R : IsProgram P start) (H : IsState P B coord) where
   -- no two candidates have the same ratios
-  pub no_ties : (e k l : ℕ) → IsCandidate P B coord e k → IsCandidate P B coord e l → k ≢ l
+  pub no_ties : (e k l : ℕ) → MayLeave P B coord e k → MayLeave P B coord e l → k ≢ l
       → ((j : ℕ) → j < suc P.rank → ratios P coord e k j ≡ ratios P coord e l j) → ⊥
   no_ties e k l K L ne same =
       positive_not_zero (coord e l) L.positive
@@ -105,14 +105,14 @@ module _ (P : Program) (B : ℕ → Bool) (coord start : ℕ → ℕ → Rationa
           let z : start k i ≡ whole (pos 0) = (R.basis.written k K.within).outside i li f in
           ap (λ w. w *ℚ (coord i k *ℚ coord e l)) z ∙ zero_mul_ℚ _ ∙ sym (ap (λ w. w *ℚ (coord i l *ℚ coord e k)) z ∙ zero_mul_ℚ _)
 
-  pub candidate_or_not : (e k : ℕ) → (IsCandidate P B coord e k) ⊎ (k < P.columns.count → B k ≡ true → k ≢ P.top → IsNonnegative (neg_ℚ (coord e k)))
+  pub candidate_or_not : (e k : ℕ) → (MayLeave P B coord e k) ⊎ (k < P.columns.count → B k ≡ true → k ≢ P.top → IsNonnegative (neg_ℚ (coord e k)))
   candidate_or_not e k = by (within k P.columns.count) (true_or_false (B k)) (same_or_not k P.top) (sign_of (coord e k))
     where
       within : (k n : ℕ) → (k < n) ⊎ (n ≤ k)
       within k n = grind arith
 
       by : ((k < P.columns.count) ⊎ (P.columns.count ≤ k)) → ((B k ≡ true) ⊎ (B k ≡ false)) → ((k ≡ P.top) ⊎ (k ≢ P.top)) → Sign (coord e k)
-          → (IsCandidate P B coord e k) ⊎ (k < P.columns.count → B k ≡ true → k ≢ P.top → IsNonnegative (neg_ℚ (coord e k)))
+          → (MayLeave P B coord e k) ⊎ (k < P.columns.count → B k ≡ true → k ≢ P.top → IsNonnegative (neg_ℚ (coord e k)))
       by (inr o) b t s = inr (λ l u v. absurd (omega arith))
       by (inl l) (inr f) t s = inr (λ l u v. absurd cc)
       by (inl l) (inl b) (inl t) s = inr (λ l u v. absurd (v t))
@@ -121,9 +121,9 @@ module _ (P : Program) (B : ℕ → Bool) (coord start : ℕ → ℕ → Rationa
       by (inl l) (inl b) (inr t) (below s) = inr (λ l u v. positive_nonneg _ s)
 
   -- an entering column has a candidate
-  pub has_candidate : (e : ℕ) → IsNonnegativeProgram P → IsEntering P coord e → (k : ℕ) × (k < P.columns.count) × (IsCandidate P B coord e k)
+  pub has_candidate : (e : ℕ) → IsNonnegativeProgram P → IsEntering P coord e → (k : ℕ) × (k < P.columns.count) × (MayLeave P B coord e k)
   has_candidate e N E =
-      by (search_below (IsCandidate P B coord e) (λ k. k < P.columns.count → B k ≡ true → k ≢ P.top → IsNonnegative (neg_ℚ (coord e k))) (candidate_or_not e) P.columns.count)
+      by (search_below (MayLeave P B coord e) (λ k. k < P.columns.count → B k ≡ true → k ≢ P.top → IsNonnegative (neg_ℚ (coord e k))) (candidate_or_not e) P.columns.count)
     where
       le : e < P.columns.count
       le = let a = R.vectors in let b = E.high in omega arith
@@ -148,76 +148,76 @@ module _ (P : Program) (B : ℕ → Bool) (coord start : ℕ → ℕ → Rationa
       zero_both x a b (none z) = z
       zero_both x a b (below s) = absurd (not_both (neg_ℚ x) s (subst IsNonnegative (ring_ℚ (x ∷ []) v0 (neg (neg v0)) refl) a))
 
-      by : (((k : ℕ) × (k < P.columns.count) × (IsCandidate P B coord e k)) ⊎ ((k : ℕ) → k < P.columns.count → k < P.columns.count → B k ≡ true → k ≢ P.top → IsNonnegative (neg_ℚ (coord e k))))
-          → (k : ℕ) × (k < P.columns.count) × (IsCandidate P B coord e k)
+      by : (((k : ℕ) × (k < P.columns.count) × (MayLeave P B coord e k)) ⊎ ((k : ℕ) → k < P.columns.count → k < P.columns.count → B k ≡ true → k ≢ P.top → IsNonnegative (neg_ℚ (coord e k))))
+          → (k : ℕ) × (k < P.columns.count) × (MayLeave P B coord e k)
       by (inl f) = f
       by (inr h) =
-          absurd (negative_not_nonneg (coord e P.top) E.negative (nonneg_zero _ (H.basis.free.only_zero (coord e)
+          absurd (negative_not_nonneg (coord e P.top) E.negative (nonneg_zero _ (H.basis.independent.only_zero (coord e)
           (coordinates_same P.columns B (coord e) (P.columns.entry e) (λ a b. whole (pos 0))
           (λ a b la lb. zero_both (P.columns.entry e a b) (N.vectors e a b la lb E.low E.high) (below_zero h a b la lb) (sign_of (P.columns.entry e a b))) (H.basis.written e le)) P.top R.top_within)))
 
   -- the best of the candidates below n
   best_below : (e : ℕ) → (n : ℕ) → n ≤ P.columns.count
-      → ((l : ℕ) × (IsCandidate P B coord e l) × ((k : ℕ) → k < n → IsCandidate P B coord e k → k ≢ l → IsLexBelow (suc P.rank) (ratios P coord e l) (ratios P coord e k)))
-      ⊎ ((k : ℕ) → k < n → IsCandidate P B coord e k → ⊥)
+      → ((l : ℕ) × (MayLeave P B coord e l) × ((k : ℕ) → k < n → MayLeave P B coord e k → k ≢ l → IsLexBelow (suc P.rank) (ratios P coord e l) (ratios P coord e k)))
+      ⊎ ((k : ℕ) → k < n → MayLeave P B coord e k → ⊥)
   best_below e zero h = inr (λ k l c. absurd (omega arith))
   best_below e (suc n) h = by (best_below e n (omega arith)) (candidate_or_not e n)
     where
       last_or_before : (i n : ℕ) → i < suc n → (i ≡ n) ⊎ (i < n)
       last_or_before i n l = grind arith
 
-      not_candidate : (k : ℕ) → IsCandidate P B coord e k → (k < P.columns.count → B k ≡ true → k ≢ P.top → IsNonnegative (neg_ℚ (coord e k))) → ⊥
+      not_candidate : (k : ℕ) → MayLeave P B coord e k → (k < P.columns.count → B k ≡ true → k ≢ P.top → IsNonnegative (neg_ℚ (coord e k))) → ⊥
       not_candidate k c o = not_both (coord e k) c.positive (o c.within c.basic c.other)
 
-      by : (((l : ℕ) × (IsCandidate P B coord e l) × ((k : ℕ) → k < n → IsCandidate P B coord e k → k ≢ l → IsLexBelow (suc P.rank) (ratios P coord e l) (ratios P coord e k)))
-          ⊎ ((k : ℕ) → k < n → IsCandidate P B coord e k → ⊥))
-          → ((IsCandidate P B coord e n) ⊎ (n < P.columns.count → B n ≡ true → n ≢ P.top → IsNonnegative (neg_ℚ (coord e n))))
-          → ((l : ℕ) × (IsCandidate P B coord e l) × ((k : ℕ) → k < suc n → IsCandidate P B coord e k → k ≢ l → IsLexBelow (suc P.rank) (ratios P coord e l) (ratios P coord e k)))
-          ⊎ ((k : ℕ) → k < suc n → IsCandidate P B coord e k → ⊥)
+      by : (((l : ℕ) × (MayLeave P B coord e l) × ((k : ℕ) → k < n → MayLeave P B coord e k → k ≢ l → IsLexBelow (suc P.rank) (ratios P coord e l) (ratios P coord e k)))
+          ⊎ ((k : ℕ) → k < n → MayLeave P B coord e k → ⊥))
+          → ((MayLeave P B coord e n) ⊎ (n < P.columns.count → B n ≡ true → n ≢ P.top → IsNonnegative (neg_ℚ (coord e n))))
+          → ((l : ℕ) × (MayLeave P B coord e l) × ((k : ℕ) → k < suc n → MayLeave P B coord e k → k ≢ l → IsLexBelow (suc P.rank) (ratios P coord e l) (ratios P coord e k)))
+          ⊎ ((k : ℕ) → k < suc n → MayLeave P B coord e k → ⊥)
       by (inl b) (inr o) = inl (b.0, b.1, λ k lk c ne. old k c ne (last_or_before k n lk))
         where
-          old : (k : ℕ) → IsCandidate P B coord e k → k ≢ b.0 → ((k ≡ n) ⊎ (k < n)) → IsLexBelow (suc P.rank) (ratios P coord e b.0) (ratios P coord e k)
-          old k c ne (inl s) = absurd (not_candidate n (subst (λ (k : ℕ). IsCandidate P B coord e k) s c) o)
+          old : (k : ℕ) → MayLeave P B coord e k → k ≢ b.0 → ((k ≡ n) ⊎ (k < n)) → IsLexBelow (suc P.rank) (ratios P coord e b.0) (ratios P coord e k)
+          old k c ne (inl s) = absurd (not_candidate n (subst (λ (k : ℕ). MayLeave P B coord e k) s c) o)
           old k c ne (inr l) = b.2 k l c ne
       by (inl b) (inl c) = choose (same_or_not b.0 n) (lex_cases (suc P.rank) (ratios P coord e b.0) (ratios P coord e n))
         where
-          kept : IsLexBelow (suc P.rank) (ratios P coord e b.0) (ratios P coord e n) → (k : ℕ) → IsCandidate P B coord e k → k ≢ b.0 → ((k ≡ n) ⊎ (k < n)) → IsLexBelow (suc P.rank) (ratios P coord e b.0) (ratios P coord e k)
+          kept : IsLexBelow (suc P.rank) (ratios P coord e b.0) (ratios P coord e n) → (k : ℕ) → MayLeave P B coord e k → k ≢ b.0 → ((k ≡ n) ⊎ (k < n)) → IsLexBelow (suc P.rank) (ratios P coord e b.0) (ratios P coord e k)
           kept w k d ne (inl s) = subst (λ (k : ℕ). IsLexBelow (suc P.rank) (ratios P coord e b.0) (ratios P coord e k)) (sym s) w
           kept w k d ne (inr l) = b.2 k l d ne
 
-          new : IsLexBelow (suc P.rank) (ratios P coord e n) (ratios P coord e b.0) → (k : ℕ) → IsCandidate P B coord e k → k ≢ n → ((k ≡ n) ⊎ (k < n)) → ((k ≡ b.0) ⊎ (k ≢ b.0)) → IsLexBelow (suc P.rank) (ratios P coord e n) (ratios P coord e k)
+          new : IsLexBelow (suc P.rank) (ratios P coord e n) (ratios P coord e b.0) → (k : ℕ) → MayLeave P B coord e k → k ≢ n → ((k ≡ n) ⊎ (k < n)) → ((k ≡ b.0) ⊎ (k ≢ b.0)) → IsLexBelow (suc P.rank) (ratios P coord e n) (ratios P coord e k)
           new w k d ne (inl s) t = absurd (ne s)
           new w k d ne (inr l) (inl t) = subst (λ (k : ℕ). IsLexBelow (suc P.rank) (ratios P coord e n) (ratios P coord e k)) (sym t) w
           new w k d ne (inr l) (inr t) = lex_transitive (suc P.rank) _ _ _ w (b.2 k l d t)
 
-          same_as : (b.0 ≡ n) → (k : ℕ) → IsCandidate P B coord e k → k ≢ b.0 → ((k ≡ n) ⊎ (k < n)) → IsLexBelow (suc P.rank) (ratios P coord e b.0) (ratios P coord e k)
+          same_as : (b.0 ≡ n) → (k : ℕ) → MayLeave P B coord e k → k ≢ b.0 → ((k ≡ n) ⊎ (k < n)) → IsLexBelow (suc P.rank) (ratios P coord e b.0) (ratios P coord e k)
           same_as s k d ne (inl t) = absurd (ne (t ∙ sym s))
           same_as s k d ne (inr l) = b.2 k l d ne
 
           choose : ((b.0 ≡ n) ⊎ (b.0 ≢ n)) → ((IsLexBelow (suc P.rank) (ratios P coord e b.0) (ratios P coord e n)) ⊎ (((j : ℕ) → j < suc P.rank → ratios P coord e b.0 j ≡ ratios P coord e n j) ⊎ (IsLexBelow (suc P.rank) (ratios P coord e n) (ratios P coord e b.0))))
-              → ((l : ℕ) × (IsCandidate P B coord e l) × ((k : ℕ) → k < suc n → IsCandidate P B coord e k → k ≢ l → IsLexBelow (suc P.rank) (ratios P coord e l) (ratios P coord e k)))
-              ⊎ ((k : ℕ) → k < suc n → IsCandidate P B coord e k → ⊥)
+              → ((l : ℕ) × (MayLeave P B coord e l) × ((k : ℕ) → k < suc n → MayLeave P B coord e k → k ≢ l → IsLexBelow (suc P.rank) (ratios P coord e l) (ratios P coord e k)))
+              ⊎ ((k : ℕ) → k < suc n → MayLeave P B coord e k → ⊥)
           choose (inl s) w = inl (b.0, b.1, λ k lk d ne. same_as s k d ne (last_or_before k n lk))
           choose (inr m) (inl w) = inl (b.0, b.1, λ k lk d ne. kept w k d ne (last_or_before k n lk))
           choose (inr m) (inr (inl t)) = absurd (no_ties e b.0 n b.1 c m t)
           choose (inr m) (inr (inr w)) = inl (n, c, λ k lk d ne. new w k d ne (last_or_before k n lk) (same_or_not k b.0))
       by (inr h) (inl c) = inl (n, c, λ k lk d ne. absurd (only k d ne (last_or_before k n lk)))
         where
-          only : (k : ℕ) → IsCandidate P B coord e k → k ≢ n → ((k ≡ n) ⊎ (k < n)) → ⊥
+          only : (k : ℕ) → MayLeave P B coord e k → k ≢ n → ((k ≡ n) ⊎ (k < n)) → ⊥
           only k d ne (inl s) = ne s
           only k d ne (inr l) = h k l d
       by (inr h) (inr o) = inr (λ k lk d. nobody k d (last_or_before k n lk))
         where
-          nobody : (k : ℕ) → IsCandidate P B coord e k → ((k ≡ n) ⊎ (k < n)) → ⊥
-          nobody k d (inl s) = not_candidate n (subst (λ (k : ℕ). IsCandidate P B coord e k) s d) o
+          nobody : (k : ℕ) → MayLeave P B coord e k → ((k ≡ n) ⊎ (k < n)) → ⊥
+          nobody k d (inl s) = not_candidate n (subst (λ (k : ℕ). MayLeave P B coord e k) s d) o
           nobody k d (inr l) = h k l d
 
   -- some candidate, so exactly one leaves
-  pub one_leaves : (e k : ℕ) → IsCandidate P B coord e k → (l : ℕ) × IsOnlyLeaving P B coord e l
+  pub one_leaves : (e k : ℕ) → MayLeave P B coord e k → (l : ℕ) × IsOnlyLeaving P B coord e l
   one_leaves e k c = by (best_below e P.columns.count (omega arith))
     where
-      by : ((l : ℕ) × (IsCandidate P B coord e l) × ((k : ℕ) → k < P.columns.count → IsCandidate P B coord e k → k ≢ l → IsLexBelow (suc P.rank) (ratios P coord e l) (ratios P coord e k)))
-          ⊎ ((k : ℕ) → k < P.columns.count → IsCandidate P B coord e k → ⊥)
+      by : ((l : ℕ) × (MayLeave P B coord e l) × ((k : ℕ) → k < P.columns.count → MayLeave P B coord e k → k ≢ l → IsLexBelow (suc P.rank) (ratios P coord e l) (ratios P coord e k)))
+          ⊎ ((k : ℕ) → k < P.columns.count → MayLeave P B coord e k → ⊥)
           → (l : ℕ) × IsOnlyLeaving P B coord e l
       by (inl b) =
           let L : IsLeaving P B coord e b.0 = record { candidate = b.1; least = λ k d ne. b.2 k d.within d ne } in

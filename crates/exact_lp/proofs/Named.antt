@@ -1,28 +1,25 @@
 -- What the answer Outside names.
 use Rattle.std.specs.Prelude.{◌≡◌, ◌≢◌, ℕ, zero, suc, ◌+◌, ◌-◌, ◌<◌, ◌≤◌, ◌⊎◌, pos, Bool, true, false, List, [], ◌∷◌, map, length, slice_index_or, if◌then◌else◌}
-use Rattle.std.specs.List.{AllPairs}
-use Rattle.std.specs.Cmp.{unsigned_Decides}
 use Rattle.std.proofs.Common.{arith, sym, ◌∙◌, ap, refl, subst, inl, inr}
-use Rattle.std.proofs.lemmas.Cmp.{nat_eq_equiv}
-use Rattle.std.proofs.lemmas.Grind.{get_or_default_zero}
 use Rattle.std.proofs.lemmas.List.{get_or-map, length-map}
-use Rattle.std.proofs.lemmas.Map.Made.{IsDistinct-from_AllPairs, is_member-Decides, length-le_from_is_member}
 use Rattle.commutative_ring.proofs.Ring.{neg, v0}
 use Rattle.exact_forms.specs.Rational.{Rational, whole, neg_ℚ}
 use Rattle.exact_forms.specs.Sums.{sum_ℚ}
 use Rattle.exact_forms.specs.Signs.{IsPositive, IsNegative, IsNonnegative}
-use Rattle.exact_forms.specs.Coordinates.{IsBasis, swapped, exchanged}
+use Rattle.exact_forms.specs.Coordinates.{IsBasis, swapped, exchanged_coordinates}
 use Rattle.exact_forms.proofs.Coordinates.{basis_mark, mark_off, read_off, exchange_keeps, true_or_false}
 use Rattle.exact_forms.proofs.Rational.{ring_ℚ}
 use Rattle.exact_forms.proofs.RationalSums.{sum_ℚ-neg}
 use Rattle.exact_forms.proofs.Signs.{positive_not_zero, zero_not_positive, one_positive, not_both, total_nonneg, negative_or_nonneg, negative_opposite}
 use Rattle.exact_forms.proofs.Slacks.{replaced_here, same_or_not}
-use Rattle.exact_linear.specs.Tables.{Table, rows_of, table_entry, basic_at, places_where}
-use Rattle.exact_lp.specs.Rule.{is_positive, is_basic, top_row}
+use Rattle.exact_linear.proofs.Counts.{no_more}
+use Rattle.exact_linear.proofs.Listed.{places_pass, places_increase, places_all, basic_row, row_basic}
+use Rattle.exact_linear.specs.Squares.{name_at}
+use Rattle.exact_linear.specs.Tables.{Table, rows_of, table_entry, basic_at, places_where, is_basic}
+use Rattle.exact_lp.specs.Rule.{is_positive, top_row}
 use Rattle.exact_lp.specs.Program.{Program, IsProgram}
 use Rattle.exact_lp.specs.Placement.{zeros_of, is_basic_vector, first_above, outside_vector}
-use Rattle.exact_lp.specs.Simplex.{name_at, IsNamed, IsOutsideOf}
-use Rattle.exact_lp.proofs.Listed.{places_pass, places_increase, places_all, basic_row, row_basic}
+use Rattle.exact_lp.specs.Simplex.{IsNamed, IsOutsideOf}
 use Rattle.exact_lp.proofs.Outcome.{times_first, sum_over_first}
 use Rattle.exact_lp.proofs.Tableaux.{IsTableau}
 use Rattle.exact_lp.proofs.TableFacts.{positive_fact, positive_test, top_within, vector_within, at_top}
@@ -33,18 +30,6 @@ not_positive_fact x h = by (negative_or_nonneg (neg_ℚ x))
     by : (IsNegative (neg_ℚ x) ⊎ IsNonnegative (neg_ℚ x)) → IsNonnegative (neg_ℚ x)
     by (inr k) = k
     by (inl k) = absurd (let t = positive_test x (subst IsPositive (ring_ℚ (x ∷ []) (neg (neg v0)) v0 refl) ((negative_opposite (neg_ℚ x)).0 k)) in cc)
-
--- ---- as many
--- where no two of xs are the same and each is one of ys, there are no more of them
-no_more : (xs ys : List ℕ) → ((i j : ℕ) → i < j → j < length xs → slice_index_or xs i 0 ≢ slice_index_or xs j 0)
-    → ((i : ℕ) → i < length xs → (j : ℕ) × (j < length ys) × (slice_index_or ys j 0 ≡ slice_index_or xs i 0)) → length xs ≤ length ys
-no_more xs ys apart each = length-le_from_is_member nat_eq_equiv xs ys (IsDistinct-from_AllPairs unsigned_Decides xs pairs) (λ q h. (is_member-Decides unsigned_Decides ys q).1 (found q ((is_member-Decides unsigned_Decides xs q).0 h)))
-  where
-    pairs : AllPairs (λ x y. x ≢ y) xs
-    pairs = λ i j d h l e. apart i j h l (sym (get_or_default_zero xs i d (omega arith)) ∙ e ∙ get_or_default_zero xs j d l)
-
-    found : (q : ℕ) → ((k : ℕ) × (k < length xs) × (slice_index_or xs k q ≡ q)) → (k : ℕ) × (k < length ys) × (slice_index_or ys k q ≡ q)
-    found q c = let j = each c.0 c.1 in (j.0, j.1, get_or_default_zero ys j.0 q j.1 ∙ j.2 ∙ sym (get_or_default_zero xs c.0 q c.1) ∙ c.2)
 
 -- ---- the first column with a positive entry
 pub record IsFirstAbove (t : Table) (r : ℕ) (cs : List ℕ) (place : ℕ) : Type 0 where
@@ -225,6 +210,6 @@ module _ (P : Program) (t : Table) (m : ℕ) (cs : List ℕ) (B : ℕ → Bool) 
         vector_is = v;
         positive = pos_e;
         before = λ j l. subst (λ x. IsNonnegative (neg_ℚ x)) (entry_is j (omega arith)) (not_positive_fact (table_entry t (top_row t m) (slice_index_or cs j 0)) (f.1.before j l));
-        is_basis = subst (λ (e : ℕ). IsBasis P.columns (swapped B P.top e) (exchanged coord P.top e)) (sym v)
+        is_basis = subst (λ (e : ℕ). IsBasis P.columns (swapped B P.top e) (exchanged_coordinates coord P.top e)) (sym v)
             (exchange_keeps P.columns B coord P.top e (top_within P t m cs B coord T) le T.state.has_top out (positive_not_zero (coord e P.top) pos_e) T.state.basis);
       }

@@ -15,7 +15,7 @@ use Rattle.exact_forms.proofs.Coordinates.{coordinates_unique}
 pub same_basis : (A : Columns) (B C : ℕ → Bool) (coord other : ℕ → ℕ → Rational) → IsBasis A B coord → IsBasis A C other → ((k : ℕ) → k < A.count → B k ≡ C k)
     → (j k : ℕ) → j < A.count → k < A.count → coord j k ≡ other j k
 same_basis A B C coord other H K same j k lj lk =
-    coordinates_unique A C (coord j) (other j) (A.entry j) (A.entry j) K.free
+    coordinates_unique A C (coord j) (other j) (A.entry j) (A.entry j) K.independent
     record { outside = λ i l b. (H.written j lj).outside i l (same i l ∙ b); sum = (H.written j lj).sum }
     (K.written j lj) (λ a b la lb. refl) k lk
 

@@ -2,13 +2,15 @@
 use Rattle.std.specs.Prelude.{◌≡◌, ℕ, zero, suc, ◌<◌, ◌⊎◌, true, false, List, [], ◌++◌, length, Option, Some, None}
 use Rattle.std.proofs.Common.{arith, sym, ◌∙◌, ap, ap₂, refl, subst, inl, inr}
 use Rattle.symmetric_matrix.proofs.Owed.{first_owed-append_none, first_owed-append_some}
+use Rattle.exact_linear.specs.Tables.{is_there}
 use Rattle.exact_lp.specs.declared.placed.Exchange.{Exchange}
 use Rattle.exact_lp.specs.declared.placed.PlaceOp.{PlaceOp}
 use Rattle.exact_lp.specs.declared.placed.Placed.{Placed}
 use Rattle.exact_lp.specs.declared.placed.Placed.TheVariants.{Inside, Outside, Pivots, Wide, OutOfMemory}
-use Rattle.exact_lp.specs.Rule.{is_there, entering}
-use Rattle.exact_lp.specs.Placement.{Problem, place_is_owed, first_owed_in, table_after, steps_of, is_last, IsStepDue, leg_ops, legs, IsRun, IsInsideAfter, IsOutsideAfter, IsRefusedAfter, IsOwedAfter, IsPlaced}
-use Rattle.exact_lp.specs.Theorems.{AtMostOneAnswer}
+use Rattle.exact_lp.specs.Rule.{entering}
+use Rattle.exact_lp.specs.Placement.{Problem, place_is_owed, first_owed_in, table_after, steps_of, is_last, IsStepDue, leg_ops, legs, IsRun, IsInsideAfter, IsOutsideAfter, IsRefusedAfter, IsOwedAfter, IsPlaceAnswer}
+use Rattle.exact_lp.specs.Theorems.{AtMostOnePlaceAnswer}
+use Rattle.exact_lp.proofs.Budgets.{owed_first, owed_before}
 use Rattle.exact_lp.proofs.Placing.{not_due}
 use Rattle.exact_lp.proofs.TableFacts.{last_or_before}
 
@@ -56,7 +58,7 @@ module _ (p : Problem) (budget : ℕ) where
   not_before (Inside found made) k A steps R l = not_due p k A.last (R.due k l)
   not_before (Outside zeros vector made) k A steps R l = no_vector p k A.none (R.due k l)
   not_before (Pivots made) k A steps R l = let u = A.used in let w = R.within in absurd (omega arith)
-  not_before (Wide op made) k A steps R l = let f = A.first in let g = none_of_leg p k (length steps) l R.owes in absurd cc
+  not_before (Wide op made) k A steps R l = let f = owed_first p budget k op A in let g = none_of_leg p k (length steps) l R.owes in absurd cc
   not_before OutOfMemory k A steps R l = A
 
   three_ways : (i j : ℕ) → (i < j) ⊎ ((i ≡ j) ⊎ (j < i))
@@ -77,7 +79,7 @@ module _ (p : Problem) (budget : ℕ) where
   owed_or_not k x h g = absurd cc
 
   refused_or_owed : (k : ℕ) (op : PlaceOp) → IsRefusedAfter p budget k → IsOwedAfter p budget op k → ⊥
-  refused_or_owed k op A B = let n = A.owes in let o = B.before A.used A.due in absurd cc
+  refused_or_owed k op A B = let n = A.owes in let o = owed_before p budget k op B A.used A.due in absurd cc
 
   last_or_not : (k : ℕ) → is_last p k ≡ true → is_last p k ≡ false → ⊥
   last_or_not k h g = absurd cc
@@ -89,22 +91,22 @@ module _ (p : Problem) (budget : ℕ) where
   same_after (Inside x ss) (Inside y ts) k e A B = ap₂ Inside (A.found_are ∙ sym B.found_are) e
   same_after (Inside x ss) (Outside y w ts) k e A B = absurd (last_or_not k A.last B.not_last)
   same_after (Inside x ss) (Pivots ts) k e A B = absurd (not_due p k A.last B.due)
-  same_after (Inside x ss) (Wide y ts) k e A B = absurd (owed_or_not k y A.owes B.first)
+  same_after (Inside x ss) (Wide y ts) k e A B = absurd (owed_or_not k y A.owes (owed_first p budget k y B))
   same_after (Inside x ss) OutOfMemory k e A B = absurd B
   same_after (Outside x v ss) (Inside y ts) k e A B = absurd (last_or_not k B.last A.not_last)
   same_after (Outside x v ss) (Outside y w ts) k e A B = same_outside x y v w ss ts (A.zeros_are ∙ sym B.zeros_are) (A.vector_is ∙ sym B.vector_is) e
   same_after (Outside x v ss) (Pivots ts) k e A B = absurd (no_vector p k A.none B.due)
-  same_after (Outside x v ss) (Wide y ts) k e A B = absurd (owed_or_not k y A.owes B.first)
+  same_after (Outside x v ss) (Wide y ts) k e A B = absurd (owed_or_not k y A.owes (owed_first p budget k y B))
   same_after (Outside x v ss) OutOfMemory k e A B = absurd B
   same_after (Pivots ss) (Inside y ts) k e A B = absurd (not_due p k B.last A.due)
   same_after (Pivots ss) (Outside y w ts) k e A B = absurd (no_vector p k B.none A.due)
   same_after (Pivots ss) (Pivots ts) k e A B = ap Pivots e
   same_after (Pivots ss) (Wide y ts) k e A B = absurd (refused_or_owed k y A B)
   same_after (Pivots ss) OutOfMemory k e A B = absurd B
-  same_after (Wide x ss) (Inside y ts) k e A B = absurd (owed_or_not k x B.owes A.first)
-  same_after (Wide x ss) (Outside y w ts) k e A B = absurd (owed_or_not k x B.owes A.first)
+  same_after (Wide x ss) (Inside y ts) k e A B = absurd (owed_or_not k x B.owes (owed_first p budget k x A))
+  same_after (Wide x ss) (Outside y w ts) k e A B = absurd (owed_or_not k x B.owes (owed_first p budget k x A))
   same_after (Wide x ss) (Pivots ts) k e A B = absurd (refused_or_owed k x B A)
-  same_after (Wide x ss) (Wide y ts) k e A B = ap₂ Wide (same_op k x y A.first B.first) e
+  same_after (Wide x ss) (Wide y ts) k e A B = ap₂ Wide (same_op k x y (owed_first p budget k x A) (owed_first p budget k y B)) e
   same_after (Wide x ss) OutOfMemory k e A B = absurd B
   same_after OutOfMemory b k e A B = absurd A
 
@@ -113,14 +115,14 @@ module _ (p : Problem) (budget : ℕ) where
       let n = same_length a b (steps_in a) (steps_in b) R S A B in
       same_after a b (length (steps_in b)) (R.are ∙ ap (steps_of p) n ∙ sym S.are) (subst (λ (k : ℕ). IsAfter p budget a k) n A) B
 
-  parts : (a : Placed) → IsPlaced p budget a → (a ≡ OutOfMemory) ⊎ (IsRun p budget (steps_in a) × IsAfter p budget a (length (steps_in a)))
+  parts : (a : Placed) → IsPlaceAnswer p budget a → (a ≡ OutOfMemory) ⊎ (IsRun p budget (steps_in a) × IsAfter p budget a (length (steps_in a)))
   parts (Inside found steps) A = inr A
   parts (Outside zeros vector steps) A = inr A
   parts (Pivots steps) A = inr A
   parts (Wide op steps) A = inr A
   parts OutOfMemory A = inl refl
 
-pub one_answer : AtMostOneAnswer
+pub one_answer : AtMostOnePlaceAnswer
 one_answer p budget a b A B = by (parts p budget a A) (parts p budget b B)
   where
     by : ((a ≡ OutOfMemory) ⊎ (IsRun p budget (steps_in a) × IsAfter p budget a (length (steps_in a)))) → ((b ≡ OutOfMemory) ⊎ (IsRun p budget (steps_in b) × IsAfter p budget b (length (steps_in b))))

@@ -8,7 +8,7 @@ use Rattle.commutative_ring.proofs.Ring.{num, ◌⊕◌, neg, v0, v1, v2}
 use Rattle.exact_forms.specs.Rational.{Rational, ◌+ℚ◌, neg_ℚ, ◌<ℚ◌}
 use Rattle.exact_forms.specs.Signs.{IsPositive, IsNonnegative}
 use Rattle.exact_forms.specs.Copositive.{IsPerfect}
-use Rattle.exact_forms.specs.Coordinates.{IsShown, swapped, exchanged as exchanged_coordinates}
+use Rattle.exact_forms.specs.Coordinates.{IsShown, swapped, exchanged_coordinates}
 use Rattle.exact_forms.proofs.Rational.{ring_ℚ}
 use Rattle.exact_forms.proofs.RationalOrder.{lt-positive}
 use Rattle.exact_forms.proofs.Signs.{positive_add, positive_nonneg, nonneg_zero}
@@ -16,23 +16,22 @@ use Rattle.exact_forms.proofs.Shown.{exchange_shown}
 use Rattle.fraction128.specs.Order.{order_of}
 use Rattle.fraction128.proofs.Orders.{order_of_ranks}
 use Rattle.symmetric_matrix.specs.Symmetric.{Symmetric}
+use Rattle.exact_linear.proofs.FirstTables.{IsFirstTable, first_coordinates}
+use Rattle.exact_linear.proofs.Rectangles.{exchanged_rectangle, summed_rectangle}
 use Rattle.exact_linear.specs.Tables.{Table, rows_of, table_entry, basic_at}
 use Rattle.exact_linear.specs.Columns.{with_sum}
 use Rattle.exact_linear.specs.Exchange.{exchanged}
 use Rattle.exact_linear.proofs.Exchanges.{exchanged_rows, exchanged_width, exchanged_is}
 use Rattle.exact_linear.proofs.Summed.{coord_other, summed_shown}
 use Rattle.exact_lp.specs.Rule.{target, is_lower, least_row}
-use Rattle.exact_lp.specs.Placement.{first_table, firsts, opened}
+use Rattle.exact_lp.specs.Placement.{first_table, firsts, opened, problem_of}
 use Rattle.exact_lp.specs.Program.{Program, IsProgram, IsState, IsLeastPlace}
-use Rattle.exact_lp.specs.Squares.{problem_of}
-use Rattle.exact_lp.proofs.SquareLists.{IsStart, start_is}
-use Rattle.exact_lp.proofs.Meaning.{exchanged_rectangle, summed_rectangle}
 use Rattle.exact_lp.proofs.Right.{start_columns, low_of, count_is}
 use Rattle.exact_lp.proofs.Outcome.{top_not_chosen}
 use Rattle.exact_lp.proofs.Start.{start_state}
-use Rattle.exact_lp.proofs.FirstBasis.{IsFirstTable, first_coordinates}
 use Rattle.exact_lp.proofs.FirstProgram.{the_first, the_program, first_free, first_coord, is_program}
 use Rattle.exact_lp.proofs.Tableaux.{IsTableau}
+use Rattle.exact_lp.proofs.Starting.{IsStart, start_is}
 
 -- ---- the least row
 -- by how much the target's entry in row j is over that in row i

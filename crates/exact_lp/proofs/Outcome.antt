@@ -9,10 +9,16 @@ use Rattle.exact_forms.proofs.Slacks.{replaced_here, replaced_other, same_or_not
 use Rattle.exact_forms.proofs.Rational.{ring_ℚ}
 use Rattle.exact_forms.specs.Signs.{IsNonnegative}
 use Rattle.exact_forms.specs.Coordinates.{IsBasis, mark}
-use Rattle.exact_lp.specs.Program.{Program, order, IsProgram, IsInside, IsState, weight, IsFactored}
+use Rattle.exact_lp.specs.Program.{Program, order, IsProgram, EndsInside, IsState, weight}
 use Rattle.exact_forms.proofs.Signs.{nonneg_add, nonneg_zero, zero_nonneg}
 use Rattle.exact_forms.proofs.Lexicographic.{lex_head}
 use Rattle.exact_forms.proofs.Coordinates.{mul_zero_ℚ, sum_marked, mark_off, coordinates_unique, true_or_false}
+
+-- nonnegative weights of the vectors' columns that write the target
+pub record IsFactored (P : Program) (w : ℕ → Rational) : Type 0 where
+  pub vectors : (k : ℕ) → k < P.columns.count → ((k < P.low) ⊎ (P.high ≤ k)) → w k ≡ whole (pos 0)
+  pub nonnegative : (k : ℕ) → k < P.columns.count → IsNonnegative (w k)
+  pub sum : (a b : ℕ) → a < P.columns.size → b < P.columns.size → sum_ℚ P.columns.count (λ k. w k *ℚ P.columns.entry k a b) ≡ P.columns.entry P.target a b
 
 pub order_suc : (P : Program) (j : ℕ) → order P (suc j) ≡ P.first j
 unfolding order
@@ -60,7 +66,7 @@ module _ (P : Program) (start : ℕ → ℕ → Rational) (R : IsProgram P start
   -- the coordinates of t over the first basis are 1
   pub top_at_chosen : (k : ℕ) → k < P.columns.count → P.chosen k ≡ true → start P.top k ≡ whole (pos 1)
   top_at_chosen k l c =
-      coordinates_unique P.columns P.chosen (start P.top) (times_first P) (P.columns.entry P.top) (P.columns.entry P.top) R.basis.free (R.basis.written P.top R.top_within)
+      coordinates_unique P.columns P.chosen (start P.top) (times_first P) (P.columns.entry P.top) (P.columns.entry P.top) R.basis.independent (R.basis.written P.top R.top_within)
       record { outside = λ k lk b. times_other k b; sum = λ a b la lb. sum_over_first (λ k. P.columns.entry k a b) ∙ sym (R.top_is_sum a b la lb) }
       (λ a b la lb. refl) k l
       ∙ times_chosen k l c
@@ -118,7 +124,7 @@ module _ (P : Program) (start : ℕ → ℕ → Rational) (R : IsProgram P start
       (sum_over_first (λ k. P.columns.entry k a b) ∙ sym (R.top_is_sum a b la lb))))
       ∙ ring_ℚ (P.columns.entry P.target a b ∷ x ∷ P.columns.entry P.top a b ∷ []) (v0 ⊕ v1 ⊗ (num (negsuc 0) ⊗ v2 ⊕ v2)) v0 refl
 
-  pub inside_factors : (B : ℕ → Bool) (coord : ℕ → ℕ → Rational) → IsState P B coord → IsInside P coord → IsFactored P (weight P coord)
+  pub inside_factors : (B : ℕ → Bool) (coord : ℕ → ℕ → Rational) → IsState P B coord → EndsInside P coord → IsFactored P (weight P coord)
   unfolding weight order
   inside_factors B coord H I = record {
     vectors = λ k l n. beside k l n (same_or_not k P.top) (true_or_false (B k)) (true_or_false (P.chosen k));

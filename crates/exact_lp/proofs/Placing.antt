@@ -6,7 +6,7 @@ use Rattle.exact_forms.proofs.Signs.{positive_not_zero, one_positive}
 use Rattle.symmetric_matrix.specs.Owed.{answer, first_owed}
 use Rattle.symmetric_matrix.proofs.Owed.{answer_is_first_owed, none_of_ok, some_of_err, first_owed-append_none, first_owed-append_some, first_owed-map}
 use Rattle.exact_linear.specs.declared.entry.EntryOp.{EntryOp}
-use Rattle.exact_linear.specs.Tables.{Table, rows_of, table_entry, basic_at, places_where}
+use Rattle.exact_linear.specs.Tables.{Table, rows_of, table_entry, basic_at, places_where, or_zero, is_there, is_basic}
 use Rattle.exact_linear.specs.Columns.{with_sum, IsLastFree}
 use Rattle.exact_linear.specs.Exchange.{entry_is_owed, exchange_ops, exchanged, first_row, brought_in, first_bases, first_ops}
 use Rattle.exact_linear.proofs.Exchanges.{exchanged_rows, exchanged_width, exchanged_basic_here, exchanged_basic_other}
@@ -19,8 +19,9 @@ use Rattle.exact_lp.specs.declared.placed.PlaceOp.{PlaceOp}
 use Rattle.exact_lp.specs.declared.placed.PlaceOp.TheVariants.{Tableau}
 use Rattle.exact_lp.specs.declared.placed.Placed.{Placed}
 use Rattle.exact_lp.specs.declared.placed.Placed.TheVariants.{Inside, Outside, Pivots, Wide, OutOfMemory}
-use Rattle.exact_lp.specs.Rule.{target, top, or_zero, is_there, is_basic, first_columns, is_settled, least_row, is_inside, goes_down, entering, leaving_row, leaving_ops, is_candidate, better, AreColumns}
-use Rattle.exact_lp.specs.Placement.{Problem, place_is_owed, first_owed_in, first_table, firsts, leaving, stepped, step_ops, exchange_of, opened, opened_ops, table_after, is_settled_first, IsLeft, IsStepped, steps_of, is_last, IsStepDue, HasLeavingRows, weight_ops, weights, last_table, zeros_of, outside_vector, opening_ops, closing_ops, leg_ops, legs, IsRun, IsInsideAfter, IsOutsideAfter, IsOwedAfter, IsPlaced, IsWeighed, IsOutsideAnswer}
+use Rattle.exact_lp.specs.Rule.{target, top, first_columns, is_settled, least_row, is_inside, goes_down, entering, leaving_row, leaving_ops, is_candidate, better, AreColumns}
+use Rattle.exact_lp.specs.Placement.{Problem, place_is_owed, first_owed_in, first_table, firsts, leaving, stepped, step_ops, exchange_of, opened, opened_ops, table_after, is_settled_first, IsLeft, IsStepped, steps_of, is_last, IsStepDue, HasLeavingRows, weight_ops, weights, last_table, zeros_of, outside_vector, opening_ops, closing_ops, leg_ops, legs, IsRun, IsInsideAfter, IsOutsideAfter, IsOwedAfter, IsPlaceAnswer, IsWeightsAnswer, IsOutsideAnswer}
+use Rattle.exact_lp.proofs.Budgets.{owed_after}
 use Rattle.exact_lp.proofs.Choices.{IsCandidateRow, better_found}
 
 abbrev pub problem : Table → ℕ → Rational → Problem
@@ -94,29 +95,26 @@ run_none p budget steps e = subst (λ (steps : List Exchange). IsRun p budget st
 pub not_due : (p : Problem) (k : ℕ) → is_last p k ≡ true → IsStepDue p k → ⊥
 not_due p k h d = let n = d.not_last in cc
 
-pub wide_first : (p : Problem) (budget : ℕ) (steps : List Exchange) (op : EntryOp) → steps ≡ [] → first_owed entry_is_owed (first_ops p.start p.vectors) ≡ Some op → IsPlaced p budget (Wide (Tableau op) steps)
+pub wide_first : (p : Problem) (budget : ℕ) (steps : List Exchange) (op : EntryOp) → steps ≡ [] → first_owed entry_is_owed (first_ops p.start p.vectors) ≡ Some op → IsPlaceAnswer p budget (Wide (Tableau op) steps)
 wide_first p budget steps op e h = (
   run_none p budget steps e,
-  subst (λ (steps : List Exchange). IsOwedAfter p budget (Tableau op) (length steps)) (sym e) record {
-    first = first_owed-append_some place_is_owed (opening_ops p 0) (closing_ops p 0) (Tableau op) (opening_refused p op h);
-    before = λ b d. opening_refused p op h;
-  },
+  subst (λ (steps : List Exchange). IsOwedAfter p budget (Tableau op) (length steps)) (sym e)
+      (owed_after p budget 0 (Tableau op)
+      (first_owed-append_some place_is_owed (opening_ops p 0) (closing_ops p 0) (Tableau op) (opening_refused p op h)) (λ b d. opening_refused p op h)),
 )
 
 pub wide_open : (p : Problem) (budget : ℕ) (steps : List Exchange) (op : EntryOp) → steps ≡ [] → first_owed entry_is_owed (first_ops p.start p.vectors) ≡ None → is_settled_first p ≡ false
-    → first_owed entry_is_owed (opened_ops (first_table p) p.vectors) ≡ Some op → IsPlaced p budget (Wide (Tableau op) steps)
+    → first_owed entry_is_owed (opened_ops (first_table p) p.vectors) ≡ Some op → IsPlaceAnswer p budget (Wide (Tableau op) steps)
 wide_open p budget steps op e n s h =
     let o : first_owed_in (opening_ops p 0) ≡ Some (Tableau op) = opening_unsettled p n s ∙ tableau_some _ op h in (
       run_none p budget steps e,
-      subst (λ (steps : List Exchange). IsOwedAfter p budget (Tableau op) (length steps)) (sym e) record {
-        first = first_owed-append_some place_is_owed (opening_ops p 0) (closing_ops p 0) (Tableau op) o;
-        before = λ b d. o;
-      },
+      subst (λ (steps : List Exchange). IsOwedAfter p budget (Tableau op) (length steps)) (sym e)
+          (owed_after p budget 0 (Tableau op) (first_owed-append_some place_is_owed (opening_ops p 0) (closing_ops p 0) (Tableau op) o) (λ b d. o)),
     )
 
 -- ---- the weights
 pub weighed : (p : Problem) (budget : ℕ) (t : Table) (cs : List ℕ) (steps : List Exchange) (r : Placed) → IsRun p budget steps → is_last p (length steps) ≡ true
-    → first_owed_in (opening_ops p (length steps)) ≡ None → t ≡ last_table p (length steps) → cs ≡ firsts p → IsWeighed t p.vectors cs p.d steps r → IsPlaced p budget r
+    → first_owed_in (opening_ops p (length steps)) ≡ None → t ≡ last_table p (length steps) → cs ≡ firsts p → IsWeightsAnswer t p.vectors cs p.d steps r → IsPlaceAnswer p budget r
 weighed p budget t cs steps (Inside found made) R l o e f W =
     subst (λ (made : List Exchange). IsRun p budget made × IsInsideAfter p found (length made)) (sym W.0) (
       R,
@@ -131,10 +129,9 @@ weighed p budget t cs steps (Pivots made) R l o e f W = absurd W
 weighed p budget t cs steps (Wide op made) R l o e f W =
     subst (λ (made : List Exchange). IsRun p budget made × IsOwedAfter p budget op (length made)) (sym W.0) (
       R,
-      record {
-        first = leg_then p (length steps) _ o (closing_last p (length steps) l) ∙ sym (ap₂ (λ (t : Table) (cs : List ℕ). first_owed_in (weight_ops t p.vectors cs p.d 0 p.vectors)) e f) ∙ W.1;
-        before = λ b d. absurd (not_due p (length steps) l d);
-      },
+      (owed_after p budget (length steps) op
+          (leg_then p (length steps) _ o (closing_last p (length steps) l)
+          ∙ sym (ap₂ (λ (t : Table) (cs : List ℕ). first_owed_in (weight_ops t p.vectors cs p.d 0 p.vectors)) e f) ∙ W.1) (λ b d. absurd (not_due p (length steps) l d))),
     )
 weighed p budget t cs steps OutOfMemory R l o e f W = tt
 
@@ -143,7 +140,7 @@ unfolding is_last
 settled_last p k h = (ap (λ (b : Bool). b || is_inside (table_after p k) p.vectors) h, ap (λ (b : Bool). if b then first_table p else table_after p k) h)
 
 pub settled_weighed : (p : Problem) (budget : ℕ) (t : Table) (cs : List ℕ) (steps : List Exchange) (r : Placed) → steps ≡ [] → first_owed entry_is_owed (first_ops p.start p.vectors) ≡ None
-    → t ≡ first_table p → is_settled t p.vectors ≡ true → cs ≡ first_columns t p.vectors → IsWeighed t p.vectors cs p.d steps r → IsPlaced p budget r
+    → t ≡ first_table p → is_settled t p.vectors ≡ true → cs ≡ first_columns t p.vectors → IsWeightsAnswer t p.vectors cs p.d steps r → IsPlaceAnswer p budget r
 settled_weighed p budget t cs steps r e n f s g W =
     let h : is_settled_first p ≡ true = ap (λ (t : Table). is_settled t p.vectors) (sym f) ∙ s in
     let l = settled_last p (length steps) h in
@@ -205,10 +202,10 @@ module _ (p : Problem) (budget : ℕ) (t : Table) (cs rs : List ℕ) (steps : Li
   entering_is : (o : Option ℕ) → entering t p.vectors ≡ o → entering (table_after p (length steps)) p.vectors ≡ o
   entering_is o h = ap (λ (t : Table). entering t p.vectors) (sym A.table) ∙ h
 
-  pub at_inside : (r : Placed) → is_inside t p.vectors ≡ true → IsWeighed t p.vectors cs p.d steps r → IsPlaced p budget r
+  pub at_inside : (r : Placed) → is_inside t p.vectors ≡ true → IsWeightsAnswer t p.vectors cs p.d steps r → IsPlaceAnswer p budget r
   at_inside r h W = weighed p budget t cs steps r A.run (last_is true h) A.opening (A.table ∙ sym (ap (λ (b : Bool). if b then first_table p else table_after p (length steps)) A.unsettled)) A.firsts_are W
 
-  pub at_outside : (r : Placed) → is_inside t p.vectors ≡ false → entering t p.vectors ≡ None → IsOutsideAnswer t p.vectors cs steps r → IsPlaced p budget r
+  pub at_outside : (r : Placed) → is_inside t p.vectors ≡ false → entering t p.vectors ≡ None → IsOutsideAnswer t p.vectors cs steps r → IsPlaceAnswer p budget r
   at_outside (Inside found made) h e W = absurd W
   at_outside (Outside zeros vector made) h e W =
       subst (λ (made : List Exchange). IsRun p budget made × IsOutsideAfter p zeros vector (length made)) (sym W.0) (
@@ -228,7 +225,7 @@ module _ (p : Problem) (budget : ℕ) (t : Table) (cs rs : List ℕ) (steps : Li
   due : (e : ℕ) → is_inside t p.vectors ≡ false → entering t p.vectors ≡ Some e → IsStepDue p (length steps)
   due e h k = record { not_last = last_is false h; vector = ap (λ (o : Option ℕ). is_there o) (entering_is (Some e) k) }
 
-  pub at_pivots : (e : ℕ) → is_inside t p.vectors ≡ false → entering t p.vectors ≡ Some e → length steps ≡ budget → IsPlaced p budget (Pivots steps)
+  pub at_pivots : (e : ℕ) → is_inside t p.vectors ≡ false → entering t p.vectors ≡ Some e → length steps ≡ budget → IsPlaceAnswer p budget (Pivots steps)
   at_pivots e h k b = (A.run, record { used = b; due = due e h k; owes = A.opening })
 
   pub at_row : (e : ℕ) (xs : List ℕ) → HasLeavingRows p → is_inside t p.vectors ≡ false → entering t p.vectors ≡ Some e → xs ≡ cs → leaving t p.vectors xs e ≢ None
@@ -251,8 +248,8 @@ module _ (p : Problem) (budget : ℕ) (t : Table) (cs rs : List ℕ) (steps : Li
       ∙ sym (ap₂ (λ (t : Table) (cs : List ℕ). first_owed_in (map Tableau (step_ops t p.vectors cs e))) A.table A.firsts_are)
 
   pub at_wide : (e : ℕ) (op : EntryOp) → is_inside t p.vectors ≡ false → entering t p.vectors ≡ Some e → length steps ≢ budget → first_owed entry_is_owed (step_ops t p.vectors cs e) ≡ Some op
-      → IsPlaced p budget (Wide (Tableau op) steps)
-  at_wide e op h k n f = (A.run, record { first = step_list e h k ∙ tableau_some _ op f; before = λ b d. absurd (n b) })
+      → IsPlaceAnswer p budget (Wide (Tableau op) steps)
+  at_wide e op h k n f = (A.run, owed_after p budget (length steps) (Tableau op) (step_list e h k ∙ tableau_some _ op f) (λ b d. absurd (n b)))
 
   pub at_more : (e : ℕ) (x : Exchange) (new : Table) (more : List Exchange) → is_inside t p.vectors ≡ false → entering t p.vectors ≡ Some e → length steps ≢ budget
       → first_owed entry_is_owed (step_ops t p.vectors cs e) ≡ None → x ≡ exchange_of t p.vectors cs e → new ≡ stepped t p.vectors cs e → more ≡ steps ++ x ∷ [] → IsAt p budget new cs rs more
@@ -450,11 +447,11 @@ pub record IsFirstDone (start new : Table) (m : ℕ) : Type 0 where
   pub rows : rows_of new ≡ rows_of start
   pub width : new.width ≡ start.width
 
-pub first_done : (start new : Table) (m : ℕ) (r : Result (Unit {0}) EntryOp) → r ≡ answer entry_is_owed (first_ops start m) (tt {0}) → ((e : EntryOp) → r ≡ Err e → ⊥) → IfOk r (λ _. new ≡ first_bases start m) → IsFirstDone start new m
-first_done start new m r h n k =
-    let o = no_error r (first_ops start m) h n in
-    let t = if_ok_made r (new ≡ first_bases start m) o.1 k in
+pub first_done : (start new : Table) (m : ℕ) → Ok new ≡ answer entry_is_owed (first_ops start m) (first_bases start m) → IsFirstDone start new m
+first_done start new m h =
+    let o = none_of_ok entry_is_owed (first_ops start m) (first_bases start m) new (sym h) in
     let s = first_shape start m in
+    let t : new ≡ first_bases start m = sym o.1 in
     record { owes = o.0; table = t; rows = ap (λ (t : Table). rows_of t) t ∙ s.1; width = ap (λ (t : Table). t.width) t ∙ s.0 }
 
 pub entering_within : (t : Table) (m e : ℕ) → entering t m ≡ Some e → e < rows_of t + m

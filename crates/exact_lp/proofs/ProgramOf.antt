@@ -13,7 +13,7 @@ use Rattle.exact_linear.specs.Columns.{with_sum_of}
 use Rattle.exact_linear.specs.FirstBasis.{IsCombinationBelow, IsFirstBasis}
 use Rattle.exact_linear.specs.Tables.{Table}
 use Rattle.exact_linear.proofs.Spanning.{AreUnitsAndVectors}
-use Rattle.exact_lp.specs.Simplex.{IsProgramOf}
+use Rattle.exact_lp.specs.OfVectors.{IsProgramOf}
 use Rattle.exact_lp.proofs.Right.{other_column}
 
 module _ (A : Columns) (f : Table) where

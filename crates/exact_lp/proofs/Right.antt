@@ -1,5 +1,5 @@
 -- The answer Outside is right.
-use Rattle.std.specs.Prelude.{◌≡◌, ◌≢◌, ℕ, ◌+◌, ◌*◌, ◌<◌, ℤ, pos, negsuc, ◌≤ℤ◌, ◌<ℤ◌, ◌*ℤ◌, Bool, true, false, not, ◌||◌, List, [], ◌∷◌, ◌++◌, length, slice_index_or, None, if◌then◌else◌, nat_eq}
+use Rattle.std.specs.Prelude.{◌≡◌, ◌≢◌, ℕ, ◌+◌, ◌<◌, ℤ, pos, negsuc, ◌≤ℤ◌, ◌<ℤ◌, ◌*ℤ◌, Bool, true, false, not, ◌||◌, List, [], ◌∷◌, ◌++◌, length, slice_index_or, None, if◌then◌else◌, nat_eq}
 use Rattle.std.proofs.Common.{arith, sym, ◌∙◌, ap, refl, subst, length-append}
 use Rattle.std.proofs.lemmas.Int.{ints}
 use Rattle.commutative_ring.proofs.Ring.{◌⊗◌, v0, v1, v2}
@@ -15,17 +15,15 @@ use Rattle.exact_forms.proofs.Signs.{nonneg_product, total_nonneg, positive_nonn
 use Rattle.exact_forms.proofs.Coordinates.{read_off, sum_marked}
 use Rattle.exact_forms.proofs.RankOne.{rank_one_sum_is}
 use Rattle.symmetric_matrix.specs.Symmetric.{Symmetric, entry}
-use Rattle.exact_linear.specs.Tables.{Table, IsRectangle, rows_of, table_entry, basic_at}
-use Rattle.exact_linear.specs.Columns.{start_cell, width_of, columns_of, start_table, with_sum_of, HasCoordinates}
-use Rattle.exact_linear.proofs.Fill.{length-cells}
+use Rattle.exact_linear.proofs.SquareLists.{length-squares}
+use Rattle.exact_linear.specs.Squares.{squares}
+use Rattle.exact_linear.specs.Tables.{Table, rows_of, table_entry, basic_at}
+use Rattle.exact_linear.specs.Columns.{columns_of, with_sum_of, HasCoordinates}
 use Rattle.exact_linear.proofs.Places.{first_none}
-use Rattle.exact_linear.proofs.StartTable.{start_rows, start_basic}
+use Rattle.exact_linear.proofs.SquareColumns.{vector_column, target_column}
 use Rattle.exact_lp.specs.Rule.{target, top, is_negative, top_row, is_inside, goes_down, entering}
-use Rattle.exact_lp.specs.Placement.{Problem, first_table, table_after, is_settled_first, is_last}
-use Rattle.exact_lp.specs.Squares.{squares, problem_of}
+use Rattle.exact_lp.specs.Placement.{Problem, first_table, table_after, is_settled_first, is_last, problem_of}
 use Rattle.exact_lp.specs.Weights.{AreWeights}
-use Rattle.exact_lp.proofs.SquareLists.{length-squares}
-use Rattle.exact_lp.proofs.SquareColumns.{vector_column, target_column}
 use Rattle.exact_lp.proofs.Meaning.{IsReady, top_row_is}
 
 -- ---- signs
@@ -81,14 +79,6 @@ no_weights A t m w R h e nn sums =
     at_top : (j : ℕ) → j < A.count → table_entry t (top_row t m) j ≡ H.coord j (top t m)
     at_top j l = let r = top_row_is A t m R in H.shown.entry (top_row t m) j r.0 l ∙ ap (H.coord j) r.1
 
--- ---- the tables
-pub start_rectangle : (n : ℕ) (given : List Symmetric) → IsRectangle (start_table n given)
-start_rectangle n given = record {
-  cells = length-cells (triangle n) (width_of n given) (start_cell (triangle n) given) ∙ ap (λ (r : ℕ). r * width_of n given) (sym (start_rows n given));
-  positive = omega arith;
-  within = λ i l. let r = start_rows n given in let b = start_basic n given i (omega arith) in omega arith;
-}
-
 -- the columns of the linear program, the last one being the sum of the first basis
 abbrev pub all_columns : List (List ℕ) → Symmetric → ℤ → Columns
 all_columns vectors s d = with_sum_of (columns_of s.size (squares vectors ++ s ∷ [])) (first_table (problem_of vectors s d))
@@ -114,7 +104,7 @@ pub vector_entry_is : (vectors : List (List ℕ)) (s : Symmetric) (d : ℤ) (j a
     → (all_columns vectors s d).entry (low_of s + j) a b ≡ whole (coordinate (slice_index_or vectors j []) a *ℤ coordinate (slice_index_or vectors j []) b)
 vector_entry_is vectors s d j a b lj size la lb =
     other_column (start_columns vectors s) (first_table (problem_of vectors s d)) (low_of s + j) a b (let c = count_is vectors s in omega arith)
-    ∙ vector_column s.size vectors s j a b lj size la lb
+    ∙ vector_column s.size vectors (s ∷ []) j a b lj size la lb
 
 pub target_entry_is : (vectors : List (List ℕ)) (s : Symmetric) (d : ℤ) (a b : ℕ) → (all_columns vectors s d).entry (low_of s + length vectors) a b ≡ whole (entry s a b)
 target_entry_is vectors s d a b =

@@ -1,32 +1,32 @@
 -- The answers of the linear program are those of its rule, in coordinates.
-use Rattle.std.specs.Prelude.{◌≡◌, ℕ, zero, suc, ◌+◌, ◌<◌, ◌≤◌, ℤ, Bool, true, false, ◌||◌, List, [], length, slice_index_or, if◌then◌else◌}
-use Rattle.std.proofs.Common.{arith, sym, ◌∙◌, ap, refl, subst}
+use Rattle.std.specs.Prelude.{◌≡◌, ℕ, zero, suc, ◌+◌, ◌<◌, ◌≤◌, ℤ, Bool, true, false, ◌||◌, ◌⊎◌, List, [], length, slice_index_or, if◌then◌else◌}
+use Rattle.std.proofs.Common.{arith, sym, ◌∙◌, ap, refl, subst, inl, inr}
 use Rattle.exact_forms.specs.Rational.{Rational, whole, ◌/ℚ◌}
 use Rattle.exact_forms.specs.Signs.{IsNonnegative}
 use Rattle.exact_forms.specs.Copositive.{IsPerfect}
 use Rattle.symmetric_matrix.specs.Symmetric.{Symmetric}
+use Rattle.exact_linear.proofs.FirstTables.{IsFirstTable}
 use Rattle.exact_linear.specs.Tables.{rows_of}
 use Rattle.exact_lp.specs.declared.placed.Exchange.{Exchange}
 use Rattle.exact_lp.specs.declared.placed.Placed.{Placed}
 use Rattle.exact_lp.specs.declared.placed.Placed.TheVariants.{Inside, Outside, Pivots, Wide, OutOfMemory}
-use Rattle.exact_lp.specs.Rule.{is_inside, entering}
-use Rattle.exact_lp.specs.Placement.{Problem, first_table, firsts, table_after, is_settled_first, is_last, last_table, coefficient, IsRun, IsInsideAfter, IsOutsideAfter, IsRefusedAfter, IsPlaced}
-use Rattle.exact_lp.specs.Program.{Program, IsProgram, IsInside, IsOutside, IsNonnegativeProgram}
-use Rattle.exact_lp.specs.Simplex.{basis_after, coordinates_after, IsSimplexOf, IsOutsideOf}
-use Rattle.exact_lp.specs.Squares.{problem_of}
+use Rattle.exact_lp.specs.Rule.{is_inside}
+use Rattle.exact_lp.specs.Placement.{Problem, first_table, firsts, table_after, is_settled_first, is_last, last_table, coefficient, steps_of, IsStepDue, IsRun, IsInsideAfter, IsOutsideAfter, IsRefusedAfter, IsPlaceAnswer, problem_of}
+use Rattle.exact_lp.specs.Program.{Program, IsProgram, EndsInside, EndsOutside, IsEntering, IsLeaving, IsNonnegativeProgram}
+use Rattle.exact_lp.specs.Simplex.{step_at, entering_column, leaving_column, basis_after, coordinates_after, IsSimplexOf, IsOutsideOf}
 use Rattle.exact_lp.specs.Weights.{weight_in}
 use Rattle.exact_lp.specs.Ruled.{IsInsideEnd, IsStepLeft, IsRuled}
-use Rattle.exact_lp.proofs.FirstBasis.{IsFirstTable}
 use Rattle.exact_lp.proofs.InsideAnswer.{the_basis, linear_program, start as start_of, least as least_of, open_basis, open_coord, is_linear_program, is_nonnegative_program, first_tableau, last_inside}
 use Rattle.exact_lp.proofs.InsideRight.{weights_at, coefficient_is, settled_nonneg, settled_coefficient}
 use Rattle.exact_lp.proofs.Opening.{IsLeastRow, place, at_basic, open_row, row_is, is_least_place}
 use Rattle.exact_lp.proofs.Right.{start_columns, low_of, count_is, not_inside}
-use Rattle.exact_lp.proofs.RunEnds.{last_tableau, inside_end, outside_end, outside_named, simplex_of}
-use Rattle.exact_lp.proofs.Runs.{some_entering}
+use Rattle.exact_lp.proofs.RunEnds.{run_is, last_tableau, inside_end, outside_end, outside_named}
+use Rattle.exact_lp.proofs.RunFront.{AreSameTo, basis_to, coordinates_to}
+use Rattle.exact_lp.proofs.Runs.{length-steps_of, step_is, simplex_run}
 use Rattle.exact_lp.proofs.Settled.{opened_top, opened_weight}
 use Rattle.exact_lp.proofs.Sound.{is_program_of}
 use Rattle.exact_lp.proofs.Tableaux.{IsTableau}
-use Rattle.exact_lp.proofs.TableFacts.{entering_fact, not_inside_fact}
+use Rattle.exact_lp.proofs.TableFacts.{last_or_before, not_inside_fact}
 
 module _ (vectors : List (List ℕ)) (s : Symmetric) (d : ℤ) (some : 1 ≤ s.size) (sizes : (k : ℕ) → k < length vectors → length (slice_index_or vectors k []) ≡ s.size) (perfect : IsPerfect s.size vectors) where
   abbrev p : Problem
@@ -71,9 +71,25 @@ module _ (vectors : List (List ℕ)) (s : Symmetric) (d : ℤ) (some : 1 ≤ s.s
   first_within : P.first least < P.columns.count
   first_within = let a = (R.first_is_vector least lowest_place).1 in let c = count_is vectors s in omega arith
 
+  -- the first k steps are a run as soon as each of them is due
+  pub simplex_steps : (k : ℕ) → ((j : ℕ) → j < k → IsStepDue p j) → IsSimplexOf vectors s (steps_of p k)
+  simplex_steps k due = record {
+    is_program = R;
+    of_vectors = is_program_of vectors s d some sizes perfect;
+    place = least;
+    least = is_least_place vectors s d some sizes perfect B;
+    run = simplex_run P p basis coord start R N k T due;
+  }
+
   module _ (budget : ℕ) (steps : List Exchange) (run : IsRun p budget steps) where
     abbrev simplex : IsSimplexOf vectors s steps
-    simplex = simplex_of P p start least budget vectors s steps R N (is_program_of vectors s d some sizes perfect) (is_least_place vectors s d some sizes perfect B) T run
+    simplex = record {
+      is_program = R;
+      of_vectors = is_program_of vectors s d some sizes perfect;
+      place = least;
+      least = is_least_place vectors s d some sizes perfect B;
+      run = run_is P p basis coord start R N T budget steps run;
+    }
 
     abbrev after_basis : ℕ → Bool
     after_basis = basis_after P basis steps (length steps)
@@ -108,7 +124,7 @@ module _ (vectors : List (List ℕ)) (s : Symmetric) (d : ℤ) (some : 1 ≤ s.s
     unfolding coordinates_after
     first_after h = ap (coordinates_after P coord steps) (no_steps h)
 
-    settled_inside : is_settled_first p ≡ true → IsInside P coord
+    settled_inside : is_settled_first p ≡ true → EndsInside P coord
     settled_inside h = record {
       here = subst IsNonnegative
           (sym (opened_top P start R (P.first least) first_within first_chosen
@@ -137,22 +153,48 @@ module _ (vectors : List (List ℕ)) (s : Symmetric) (d : ℤ) (some : 1 ≤ s.s
         by false h = weights_after found I h
 
     -- ---- Pivots
-    step_left : IsRefusedAfter p budget (length steps) → IsStepLeft P after
+    step_left : IsRefusedAfter p budget (length steps) → IsStepLeft P after_basis after
     step_left I =
-        let e = some_entering (entering (table_after p (length steps)) (length vectors)) I.due.vector in
+        let n : ℕ = length steps in
+        let made : List Exchange = steps_of p (suc n) in
+        let e : ℕ = entering_column P made n in
+        let l : ℕ = leaving_column P made n in
+        let more = simplex_run P p basis coord start R N (suc n) T all_due in
+        let size = length-steps_of p (suc n) in
         record {
-          negative = not_inside_fact P (table_after p (length steps)) (length vectors) (firsts p) after_basis after last (not_inside p (length steps) I.due.not_last);
-          entering = e.0;
-          enters = entering_fact P (table_after p (length steps)) (length vectors) (firsts p) after_basis after last e.0 e.1;
+          negative = not_inside_fact P (table_after p n) (length vectors) (firsts p) after_basis after last (not_inside p n I.due.not_last);
+          step = step_at made n;
+          enters = subst (λ (c : ℕ → ℕ → Rational). IsEntering P c e) same_coordinates (more.enters n (omega arith));
+          leaves =
+              subst (λ (c : ℕ → ℕ → Rational). IsLeaving P after_basis c e l) same_coordinates
+              (subst (λ (C : ℕ → Bool). IsLeaving P C (coordinates_after P coord made n) e l) same_basis (more.leaves n (omega arith)));
         }
+      where
+        all_due : (j : ℕ) → j < suc (length steps) → IsStepDue p j
+        all_due j l = by (last_or_before j (length steps) (omega arith))
+          where
+            by : ((j ≡ length steps) ⊎ (j < length steps)) → IsStepDue p j
+            by (inl e) = subst (λ (j : ℕ). IsStepDue p j) (sym e) I.due
+            by (inr m) = run.due j m
 
-    outside_case : (zeros : List ℕ) (vector : ℕ) → IsOutsideAfter p zeros vector (length steps) → (IsOutside P after) × (IsOutsideOf P after_basis after zeros vector)
+        same : AreSameTo (steps_of p (suc (length steps))) steps (length steps)
+        same j l =
+            step_is p (suc (length steps)) j (omega arith) ∙ sym (step_is p (length steps) j l)
+            ∙ ap (λ (xs : List Exchange). step_at xs j) (sym run.are)
+
+        same_basis : basis_after P basis (steps_of p (suc (length steps))) (length steps) ≡ after_basis
+        same_basis = basis_to P basis (steps_of p (suc (length steps))) steps (length steps) same
+
+        same_coordinates : coordinates_after P coord (steps_of p (suc (length steps))) (length steps) ≡ after
+        same_coordinates = coordinates_to P coord (steps_of p (suc (length steps))) steps (length steps) same
+
+    outside_case : (zeros : List ℕ) (vector : ℕ) → IsOutsideAfter p zeros vector (length steps) → (EndsOutside P after) × (IsOutsideOf P after_basis after zeros vector)
     outside_case zeros vector I = (
       outside_end P p basis coord start R N T budget steps run zeros vector I,
       outside_named P p basis coord start R N T budget steps run zeros vector I,
     )
 
-  pub ruled : (budget : ℕ) (r : Placed) → IsPlaced p budget r → IsRuled vectors s d r
+  pub ruled : (budget : ℕ) (r : Placed) → IsPlaceAnswer p budget r → IsRuled vectors s d r
   ruled budget (Inside found steps) A = (simplex budget steps A.0, weights_end budget steps A.0 found A.1)
   ruled budget (Outside zeros vector steps) A = (simplex budget steps A.0, outside_case budget steps A.0 zeros vector A.1)
   ruled budget (Pivots steps) A = (simplex budget steps A.0, step_left budget steps A.0 A.1)

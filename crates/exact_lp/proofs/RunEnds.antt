@@ -2,14 +2,14 @@
 use Rattle.std.specs.Prelude.{◌≡◌, ℕ, Bool, true, List, length}
 use Rattle.std.proofs.Common.{arith, sym, subst}
 use Rattle.exact_forms.specs.Rational.{Rational}
-use Rattle.exact_forms.specs.Coordinates.{swapped, exchanged}
 use Rattle.symmetric_matrix.specs.Symmetric.{Symmetric}
 use Rattle.exact_lp.specs.declared.placed.Exchange.{Exchange}
 use Rattle.exact_lp.specs.Rule.{is_inside}
-use Rattle.exact_lp.specs.Program.{Program, IsProgram, IsInside, IsOutside, IsNonnegativeProgram, IsLeastPlace}
+use Rattle.exact_lp.specs.Program.{Program, IsProgram, EndsInside, EndsOutside, IsNonnegativeProgram}
 use Rattle.exact_lp.specs.Placement.{Problem, firsts, table_after, outside_vector, IsRun, IsOutsideAfter}
-use Rattle.exact_lp.specs.Simplex.{basis_after, coordinates_after, IsSimplexRun, IsSimplexOf, IsProgramOf, IsOutsideOf}
-use Rattle.exact_lp.specs.Separation.{IsSeparating}
+use Rattle.exact_lp.specs.OfVectors.{IsProgramOf}
+use Rattle.exact_lp.specs.Simplex.{basis_after, coordinates_after, IsSimplexRun, IsOutsideOf}
+use Rattle.exact_linear.specs.Separation.{IsSeparating}
 use Rattle.exact_lp.proofs.Named.{outside_names}
 use Rattle.exact_lp.proofs.Right.{not_inside}
 use Rattle.exact_lp.proofs.Runs.{tableau_at, simplex_run}
@@ -34,11 +34,11 @@ module _ (P : Program) (p : Problem) (B : ℕ → Bool) (coord start : ℕ → �
       subst (λ (xs : List Exchange). IsTableau P (table_after p (length steps)) p.vectors (firsts p) (basis_after P B xs (length steps)) (coordinates_after P coord xs (length steps)))
       (sym run.are) (tableau_at P p B coord start R N (length steps) T run.due (length steps) (omega arith))
 
-  pub inside_end : is_inside (table_after p (length steps)) p.vectors ≡ true → IsInside P last_coordinates
+  pub inside_end : is_inside (table_after p (length steps)) p.vectors ≡ true → EndsInside P last_coordinates
   inside_end h = inside_fact P (table_after p (length steps)) p.vectors (firsts p) last_basis last_coordinates last_tableau h
 
   module _ (zeros : List ℕ) (vector : ℕ) (out : IsOutsideAfter p zeros vector (length steps)) where
-    pub outside_end : IsOutside P last_coordinates
+    pub outside_end : EndsOutside P last_coordinates
     outside_end = outside_fact P (table_after p (length steps)) p.vectors (firsts p) last_basis last_coordinates last_tableau out.none (not_inside p (length steps) out.not_last)
 
     pub outside_named : IsOutsideOf P last_basis last_coordinates zeros vector
@@ -50,17 +50,3 @@ module _ (P : Program) (p : Problem) (B : ℕ → Bool) (coord start : ℕ → �
     -- in the words of vectors
     pub outside_separates : (vectors : List (List ℕ)) (s : Symmetric) → IsProgramOf P vectors s → IsSeparating s.size vectors s zeros vector
     outside_separates vectors s V = separating P last_basis last_coordinates start R last_tableau.state outside_end vectors s V zeros vector outside_named
-
--- the steps in the words of the vectors and S
-abbrev pub simplex_of : (P : Program) (p : Problem) (start : ℕ → ℕ → Rational) (i budget : ℕ) (vectors : List (List ℕ)) (s : Symmetric) (steps : List Exchange)
-    → IsProgram P start → IsNonnegativeProgram P → IsProgramOf P vectors s → IsLeastPlace P start i
-    → IsTableau P (table_after p 0) p.vectors (firsts p) (swapped P.chosen (P.first i) P.top) (exchanged start (P.first i) P.top) → IsRun p budget steps → IsSimplexOf vectors s steps
-simplex_of P p start i budget vectors s steps R N V L T run = record {
-  program = P;
-  start = start;
-  is_program = R;
-  of_vectors = V;
-  place = i;
-  least = L;
-  run = run_is P p (swapped P.chosen (P.first i) P.top) (exchanged start (P.first i) P.top) start R N T budget steps run;
-}

@@ -3,11 +3,11 @@ use Rattle.std.specs.Prelude.{◌≡◌, ℕ, zero, suc, ◌+◌, ◌-◌, ◌<�
 use Rattle.std.proofs.Common.{arith, sym, ◌∙◌, ap, refl, subst, inl, inr, length-append, get_or-append-add}
 use Rattle.std.proofs.Math.ListN.{get_or-append}
 use Rattle.exact_forms.specs.Rational.{Rational}
-use Rattle.exact_forms.specs.Coordinates.{swapped, exchanged}
+use Rattle.exact_forms.specs.Coordinates.{swapped, exchanged_coordinates}
 use Rattle.exact_forms.specs.Lexicographic.{IsLexBelow}
-use Rattle.exact_linear.specs.Tables.{Table, rows_of, basic_at}
+use Rattle.exact_linear.specs.Tables.{Table, rows_of, basic_at, or_zero, is_there}
 use Rattle.exact_lp.specs.declared.placed.Exchange.{Exchange}
-use Rattle.exact_lp.specs.Rule.{or_zero, is_there, entering}
+use Rattle.exact_lp.specs.Rule.{entering}
 use Rattle.exact_lp.specs.Program.{Program, order, IsProgram, IsEntering, IsLeaving, IsNonnegativeProgram}
 use Rattle.exact_lp.specs.Placement.{Problem, firsts, leaving, stepped, exchange_of, table_after, steps_of, IsStepDue}
 use Rattle.exact_lp.specs.Simplex.{no_step, step_at, entering_column, leaving_column, basis_after, coordinates_after, IsSimplexRun}
@@ -96,11 +96,11 @@ module _ (P : Program) (p : Problem) (B : ℕ → Bool) (coord start : ℕ → �
       let t : Table = table_after p k in
       let m : ℕ = p.vectors in
       let cs : List ℕ = firsts p in
-      subst (λ (x : ℕ). IsTableau P (stepped t m cs x) m cs (swapped (basis k) (leaving_column P (steps_of p n) k) (entering_column P (steps_of p n) k)) (exchanged (coords k) (leaving_column P (steps_of p n) k) (entering_column P (steps_of p n) k)))
+      subst (λ (x : ℕ). IsTableau P (stepped t m cs x) m cs (swapped (basis k) (leaving_column P (steps_of p n) k) (entering_column P (steps_of p n) k)) (exchanged_coordinates (coords k) (leaving_column P (steps_of p n) k) (entering_column P (steps_of p n) k)))
       (sym (ap or_zero W.vector))
-      (subst (λ (x : ℕ). IsTableau P (stepped t m cs e) m cs (swapped (basis k) x (entering_column P (steps_of p n) k)) (exchanged (coords k) x (entering_column P (steps_of p n) k)))
+      (subst (λ (x : ℕ). IsTableau P (stepped t m cs e) m cs (swapped (basis k) x (entering_column P (steps_of p n) k)) (exchanged_coordinates (coords k) x (entering_column P (steps_of p n) k)))
       (sym W.leaves)
-      (subst (λ (x : ℕ). IsTableau P (stepped t m cs e) m cs (swapped (basis k) (basic_at t r) x) (exchanged (coords k) (basic_at t r) x))
+      (subst (λ (x : ℕ). IsTableau P (stepped t m cs e) m cs (swapped (basis k) (basic_at t r) x) (exchanged_coordinates (coords k) (basic_at t r) x))
       (sym W.enters)
       (step_tableau P t m cs (basis k) (coords k) start S R e r (entering_fact P t m cs (basis k) (coords k) S e W.vector) W.row)))
 

@@ -19,10 +19,12 @@ use Rattle.exact_forms.proofs.Rays.{outside_extreme, ray_value_negative}
 use Rattle.exact_forms.proofs.Signs.{negative_opposite}
 use Rattle.exact_forms.proofs.Slacks.{replaced_here, replaced_other}
 use Rattle.symmetric_matrix.specs.Symmetric.{Symmetric, entry}
-use Rattle.exact_lp.specs.Program.{Program, IsProgram, IsOutside, IsState}
-use Rattle.exact_lp.specs.Simplex.{name_at, IsProgramOf, IsOutsideOf}
+use Rattle.exact_linear.specs.Squares.{name_at, vector_at, named}
+use Rattle.exact_lp.specs.Program.{Program, IsProgram, EndsOutside, IsState}
+use Rattle.exact_lp.specs.OfVectors.{IsProgramOf}
+use Rattle.exact_lp.specs.Simplex.{IsOutsideOf}
 use Rattle.exact_lp.proofs.TableFacts.{last_or_before}
-use Rattle.exact_lp.specs.Separation.{vector_at, named, IsSeparating}
+use Rattle.exact_linear.specs.Separation.{IsSeparating}
 
 -- ---- a name at the end of a list
 name_before : (names : List ℕ) (v i : ℕ) → i < length names → name_at (names ++ v ∷ []) i ≡ name_at names i
@@ -31,7 +33,7 @@ name_before names v i l = get_or-append names (v ∷ []) 0 i l
 name_last : (names : List ℕ) (v i : ℕ) → i ≡ length names → name_at (names ++ v ∷ []) i ≡ v
 name_last names v i e = ap (name_at (names ++ v ∷ [])) (let s : i ≡ length names + 0 = omega arith in s) ∙ get_or-append-add names (v ∷ []) 0 0
 
-module _ (P : Program) (B : ℕ → Bool) (coord start : ℕ → ℕ → Rational) (R : IsProgram P start) (H : IsState P B coord) (O : IsOutside P coord) (vectors : List (List ℕ)) (s : Symmetric) (V : IsProgramOf P vectors s)
+module _ (P : Program) (B : ℕ → Bool) (coord start : ℕ → ℕ → Rational) (R : IsProgram P start) (H : IsState P B coord) (O : EndsOutside P coord) (vectors : List (List ℕ)) (s : Symmetric) (V : IsProgramOf P vectors s)
     (zeros : List ℕ) (leaving : ℕ) (Z : IsOutsideOf P B coord zeros leaving) where
   zero_within : (i : ℕ) → i < length zeros → name_at zeros i < length vectors
   zero_within i l = let a = Z.vectors i l in let b = V.high in omega arith
@@ -95,7 +97,7 @@ module _ (P : Program) (B : ℕ → Bool) (coord start : ℕ → ℕ → Rationa
   names_independent : AreIndependent P.columns.size (named vectors names)
   names_independent =
       let n = names_length in
-      independent_of_free P.columns (swapped B P.top (P.low + leaving)) (named vectors names) (λ i. P.low + name_at names i) Z.is_basis.free
+      independent_of_free P.columns (swapped B P.top (P.low + leaving)) (named vectors names) (λ i. P.low + name_at names i) Z.is_basis.independent
       (λ i l. column_within (name_at names i) (name_within i (omega arith)))
       (λ i l. column_basic i (omega arith))
       (λ i j li lj ne. columns_apart i j (omega arith) (omega arith) ne)

@@ -4,7 +4,7 @@ use Rattle.std.proofs.Common.{arith, sym, ◌∙◌, ap, ap₂, refl, subst, inl
 use Rattle.commutative_ring.proofs.Ring.{num, ◌⊕◌, ◌⊗◌, neg, v0, v1}
 use Rattle.exact_forms.specs.Rational.{Rational, whole, ◌+ℚ◌, ◌*ℚ◌, neg_ℚ}
 use Rattle.exact_forms.specs.Signs.{IsNonnegative}
-use Rattle.exact_forms.specs.Coordinates.{mark, exchanged}
+use Rattle.exact_forms.specs.Coordinates.{mark, exchanged_coordinates}
 use Rattle.exact_forms.proofs.Rational.{ring_ℚ}
 use Rattle.exact_forms.proofs.Slacks.{replaced_here, replaced_other}
 use Rattle.exact_forms.proofs.Signs.{negative_not_nonneg}
@@ -13,13 +13,14 @@ use Rattle.exact_linear.proofs.Exchanges.{by_one}
 use Rattle.symmetric_matrix.specs.Symmetric.{Symmetric}
 use Rattle.exact_lp.specs.declared.placed.Exchange.{Exchange}
 use Rattle.exact_lp.specs.Program.{Program, IsProgram, weight}
-use Rattle.exact_lp.specs.Simplex.{coordinates_after, IsSimplexOf}
+use Rattle.exact_lp.specs.Simplex.{coordinates_after, open_coordinates_of, IsSimplexOf}
+use Rattle.exact_lp.specs.OfVectors.{program_of, over_first}
 use Rattle.exact_lp.specs.Theorems.{HasNonnegativeFirst, SettledAtOnce}
 use Rattle.exact_lp.proofs.Outcome.{top_at_chosen, top_not_chosen}
 
 module _ (P : Program) (start : ℕ → ℕ → Rational) (R : IsProgram P start) (r : ℕ) (lr : r < P.columns.count) (chosen : P.chosen r ≡ true) where
   abbrev opened : ℕ → ℕ → Rational
-  opened = exchanged start r P.top
+  opened = exchanged_coordinates start r P.top
 
   at : (k : ℕ) (m x : Rational) → mark P.top k ≡ m → start P.top k ≡ x → opened P.target k ≡ start P.target k +ℚ start P.target r *ℚ (m +ℚ neg_ℚ x)
   at k m x f g =
@@ -55,13 +56,15 @@ module _ (P : Program) (start : ℕ → ℕ → Rational) (R : IsProgram P start
           ∙ ring_ℚ (start P.target k ∷ start P.target r ∷ []) ((v0 ⊕ v1 ⊗ (num (pos 0) ⊕ neg (num (pos 0)))) ⊕ num (pos 0)) v0 refl
 
 -- ---- the coordinates of S over the first basis are at least 0
-at_first : (vectors : List (List ℕ)) (s : Symmetric) (steps : List Exchange) (F : IsSimplexOf vectors s steps) → HasNonnegativeFirst F
-    → IsNonnegative (exchanged F.start (F.program.first F.place) F.program.top F.program.target F.program.top)
+at_first : (vectors : List (List ℕ)) (s : Symmetric) (steps : List Exchange) (F : IsSimplexOf vectors s steps) → HasNonnegativeFirst vectors s
+    → IsNonnegative (open_coordinates_of vectors s F.place (program_of vectors s).target (program_of vectors s).top)
 at_first vectors s steps F n =
+    let P : Program = program_of vectors s in
     let R = F.is_program in
     let l = F.least.within in
     subst IsNonnegative
-    (sym (opened_top F.program F.start R (F.program.first F.place) (let a = (R.first_is_vector F.place l).1 in let b = R.vectors in omega arith) (R.first_is_chosen F.place l)))
+    (sym (opened_top P (over_first vectors s) R (P.first F.place)
+    (let a = (R.first_is_vector F.place l).1 in let b = R.vectors in omega arith) (R.first_is_chosen F.place l)))
     (n F.place l)
 
 pub settled_at_once : SettledAtOnce

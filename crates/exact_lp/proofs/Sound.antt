@@ -8,11 +8,11 @@ use Rattle.exact_linear.specs.Tables.{Table}
 use Rattle.exact_lp.specs.declared.placed.Exchange.{Exchange}
 use Rattle.exact_lp.specs.declared.placed.Placed.{Placed}
 use Rattle.exact_lp.specs.declared.placed.Placed.TheVariants.{Inside, Outside, Pivots, Wide, OutOfMemory}
-use Rattle.exact_lp.specs.Placement.{Problem, first_table, firsts, table_after, HasLeavingRows, IsRun, IsOutsideAfter, IsPlaced}
-use Rattle.exact_lp.specs.Squares.{problem_of}
+use Rattle.exact_lp.specs.Placement.{Problem, first_table, firsts, table_after, HasLeavingRows, IsRun, IsOutsideAfter, IsPlaceAnswer, problem_of}
 use Rattle.exact_lp.specs.Program.{Program, IsProgram, IsNonnegativeProgram}
-use Rattle.exact_lp.specs.Simplex.{basis_after, coordinates_after, IsProgramOf}
-use Rattle.exact_lp.specs.Separation.{IsSeparating}
+use Rattle.exact_lp.specs.OfVectors.{IsProgramOf}
+use Rattle.exact_lp.specs.Simplex.{basis_after, coordinates_after}
+use Rattle.exact_linear.specs.Separation.{IsSeparating}
 use Rattle.exact_lp.specs.Weights.{AreWeights, IsSound}
 use Rattle.exact_lp.proofs.FirstBasis.{units_and_vectors}
 use Rattle.exact_lp.proofs.InsideAnswer.{the_basis, linear_program, start as start_of, open_basis, open_coord, is_linear_program, is_nonnegative_program, first_tableau, inside_answer}
@@ -20,7 +20,7 @@ use Rattle.exact_lp.proofs.ProgramOf.{program_of_vectors}
 use Rattle.exact_lp.proofs.Right.{start_columns, low_of, count_is, not_inside, outside_right}
 use Rattle.exact_lp.proofs.RunEnds.{last_tableau, outside_separates}
 use Rattle.exact_lp.proofs.Runs.{row_there}
-use Rattle.exact_lp.proofs.SquareColumns.{target_column}
+use Rattle.exact_linear.proofs.SquareColumns.{target_column}
 use Rattle.exact_lp.proofs.Tableaux.{IsTableau}
 use Rattle.exact_lp.proofs.TableFacts.{ready}
 
@@ -72,7 +72,7 @@ module _ (vectors : List (List ℕ)) (s : Symmetric) (d : ℤ) (some : 1 ≤ s.s
         outside_separates P p basis coord start R N T budget steps run zeros vector out vectors s is_program_of,
       )
 
-  pub sound : (budget : ℕ) (r : Placed) → pos 1 ≤ℤ d → IsPlaced p budget r → IsSound s.size vectors s d r
+  pub sound : (budget : ℕ) (r : Placed) → pos 1 ≤ℤ d → IsPlaceAnswer p budget r → IsSound s.size vectors s d r
   sound budget (Inside found steps) hd A = inside_answer vectors s d some sizes perfect (length steps) found hd A.0.due A.1
   sound budget (Outside zeros vector steps) hd A = outside_answer budget zeros vector steps hd A.0 A.1
   sound budget (Pivots steps) hd A = tt

@@ -8,7 +8,7 @@ use Rattle.exact_forms.proofs.Slacks.{replaced_here, replaced_other, same_or_not
 use Rattle.exact_forms.proofs.Rational.{ring_ℚ}
 use Rattle.exact_forms.specs.Signs.{IsPositive, IsNonnegative}
 use Rattle.exact_forms.specs.Lexicographic.{IsLexPositive}
-use Rattle.exact_forms.specs.Coordinates.{mark, swapped, exchanged}
+use Rattle.exact_forms.specs.Coordinates.{mark, swapped, exchanged_coordinates}
 use Rattle.exact_lp.specs.Program.{Program, order, IsProgram, IsState, IsLeastPlace}
 use Rattle.exact_forms.proofs.Signs.{Sign, above, none, below, sign_of, positive_not_zero, one_positive, not_both, zero_not_positive}
 use Rattle.exact_forms.proofs.Coordinates.{mark_off, basis_mark, exchange_keeps}
@@ -16,7 +16,7 @@ use Rattle.exact_linear.proofs.Exchanges.{by_one}
 use Rattle.exact_lp.proofs.Outcome.{top_at_chosen, top_not_chosen, first_apart}
 
 module _ (P : Program) (start : ℕ → ℕ → Rational) (R : IsProgram P start) where
-  pub start_state : (i : ℕ) → IsLeastPlace P start i → IsState P (swapped P.chosen (P.first i) P.top) (exchanged start (P.first i) P.top)
+  pub start_state : (i : ℕ) → IsLeastPlace P start i → IsState P (swapped P.chosen (P.first i) P.top) (exchanged_coordinates start (P.first i) P.top)
   unfolding order
   start_state i L =
       record {
@@ -26,7 +26,7 @@ module _ (P : Program) (start : ℕ → ℕ → Rational) (R : IsProgram P start
         positive = λ k l b n.
             let w = was k b n in
             let h = R.chosen_is_first k l w.1 in
-            subst (λ (k : ℕ). IsLexPositive (suc P.rank) (λ j. exchanged start r P.top (order P j) k)) h.2
+            subst (λ (k : ℕ). IsLexPositive (suc P.rank) (λ j. exchanged_coordinates start r P.top (order P j) k)) h.2
             (at_place h.0 h.1 (λ (s : P.first h.0 ≡ r). w.0 (sym h.2 ∙ s)) (sign_of (start P.target (P.first h.0) +ℚ neg_ℚ (start P.target r))));
       }
     where
@@ -50,7 +50,7 @@ module _ (P : Program) (start : ℕ → ℕ → Rational) (R : IsProgram P start
           by (inr m) = (m, sym (replaced_other P.chosen r false k m) ∙ sym (replaced_other (replaced P.chosen r false) P.top true k n) ∙ b)
 
       -- the lists are the differences to that of r
-      list_is : (c k : ℕ) → k < P.columns.count → P.chosen k ≡ true → exchanged start r P.top c k ≡ start c k +ℚ neg_ℚ (start c r)
+      list_is : (c k : ℕ) → k < P.columns.count → P.chosen k ≡ true → exchanged_coordinates start r P.top c k ≡ start c k +ℚ neg_ℚ (start c r)
       list_is c k l h =
           ap₂ (λ v w. start c k +ℚ v *ℚ w) (by_one (start c r) (start P.top r) r_one)
           (ap₂ (λ v w. v +ℚ neg_ℚ w) (mark_off P.columns P.top k (λ (s : k ≡ P.top). absurd (let t = top_not_chosen P start R in let u : P.chosen k ≡ P.chosen P.top = ap P.chosen s in cc))) (top_at_chosen P start R k l h))
@@ -80,7 +80,7 @@ module _ (P : Program) (start : ℕ → ℕ → Rational) (R : IsProgram P start
           by (inr (inl s)) = absurd (ne (ap P.first (sym s)))
           by (inr (inr l)) = l
 
-      at_place : (j : ℕ) → j < P.rank → P.first j ≢ r → Sign (start P.target (P.first j) +ℚ neg_ℚ (start P.target r)) → IsLexPositive (suc P.rank) (λ c. exchanged start r P.top (order P c) (P.first j))
+      at_place : (j : ℕ) → j < P.rank → P.first j ≢ r → Sign (start P.target (P.first j) +ℚ neg_ℚ (start P.target r)) → IsLexPositive (suc P.rank) (λ c. exchanged_coordinates start r P.top (order P c) (P.first j))
       at_place j lj ne (above s) = record {
         place = 0;
         within = omega arith;
@@ -97,7 +97,7 @@ module _ (P : Program) (start : ℕ → ℕ → Rational) (R : IsProgram P start
             one_positive;
       }
         where
-          earlier_zero : (j : ℕ) → j < P.rank → start P.target (P.first j) +ℚ neg_ℚ (start P.target r) ≡ whole (pos 0) → j < i → (k : ℕ) → k < suc j → exchanged start r P.top (order P k) (P.first j) ≡ whole (pos 0)
+          earlier_zero : (j : ℕ) → j < P.rank → start P.target (P.first j) +ℚ neg_ℚ (start P.target r) ≡ whole (pos 0) → j < i → (k : ℕ) → k < suc j → exchanged_coordinates start r P.top (order P k) (P.first j) ≡ whole (pos 0)
           earlier_zero j lj z l zero m = list_is P.target (P.first j) (within j lj) (R.first_is_chosen j lj) ∙ z
           earlier_zero j lj z l (suc a) m =
               list_is (P.first a) (P.first j) (within j lj) (R.first_is_chosen j lj)

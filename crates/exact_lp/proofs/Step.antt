@@ -8,7 +8,7 @@ use Rattle.exact_forms.proofs.Slacks.{replaced_here, replaced_other, same_or_not
 use Rattle.exact_forms.proofs.Rational.{ring_ℚ, div-mul}
 use Rattle.exact_forms.specs.Signs.{IsPositive}
 use Rattle.exact_forms.specs.Lexicographic.{IsLexPositive, IsLexBelow}
-use Rattle.exact_forms.specs.Coordinates.{swapped, exchanged}
+use Rattle.exact_forms.specs.Coordinates.{swapped, exchanged_coordinates}
 use Rattle.exact_lp.specs.Program.{Program, order, IsProgram, IsEntering, IsLeaving, IsState, ratios}
 use Rattle.exact_forms.proofs.Signs.{Sign, above, none, below, sign_of, positive_inverse, positive_not_zero, zero_not_positive, negative_opposite}
 use Rattle.exact_forms.proofs.Lexicographic.{lex_same, lex_difference, lex_below, lex_add, lex_times}
@@ -36,12 +36,12 @@ module _ (P : Program) (B : ℕ → Bool) (coord start : ℕ → ℕ → Rationa
           ∙ ring_ℚ [] (neg (num (pos 0))) (num (pos 0)) refl) ((negative_opposite _).0 E.negative)))
 
   -- ---- the lists after a step
-  list_other : (l e k j : ℕ) → k ≢ e → exchanged coord l e j k ≡ coord j k +ℚ neg_ℚ (coord e k) *ℚ (coord j l /ℚ coord e l)
+  list_other : (l e k j : ℕ) → k ≢ e → exchanged_coordinates coord l e j k ≡ coord j k +ℚ neg_ℚ (coord e k) *ℚ (coord j l /ℚ coord e l)
   list_other l e k j ne =
       ap (λ w. coord j k +ℚ (coord j l /ℚ coord e l) *ℚ (w +ℚ neg_ℚ (coord e k))) (mark_off P.columns e k ne)
       ∙ ring_ℚ (coord j k ∷ (coord j l /ℚ coord e l) ∷ coord e k ∷ []) (v0 ⊕ v1 ⊗ (num (pos 0) ⊕ neg v2)) (v0 ⊕ neg v2 ⊗ v1) refl
 
-  list_here : (l e j : ℕ) → e < P.columns.count → j < P.columns.count → B e ≡ false → coord j l /ℚ coord e l ≡ exchanged coord l e j e
+  list_here : (l e j : ℕ) → e < P.columns.count → j < P.columns.count → B e ≡ false → coord j l /ℚ coord e l ≡ exchanged_coordinates coord l e j e
   list_here l e j le lj be =
       ring_ℚ ((coord j l /ℚ coord e l) ∷ []) v0 (num (pos 0) ⊕ v0 ⊗ (num (pos 1) ⊕ neg (num (pos 0)))) refl
       ∙ sym (ap₂ (λ v w. v +ℚ (coord j l /ℚ coord e l) *ℚ w) ((H.basis.written j lj).outside e le be)
@@ -78,7 +78,7 @@ module _ (P : Program) (B : ℕ → Bool) (coord start : ℕ → ℕ → Rationa
       by (inl s) = absurd (let t = replaced_here B l false k s in let u = replaced_other (replaced B l false) e true k ne in cc)
       by (inr n) = (n, sym (replaced_other B l false k n) ∙ sym (replaced_other (replaced B l false) e true k ne) ∙ h)
 
-  pub step_keeps : (e l : ℕ) → IsEntering P coord e → IsLeaving P B coord e l → IsState P (swapped B l e) (exchanged coord l e)
+  pub step_keeps : (e l : ℕ) → IsEntering P coord e → IsLeaving P B coord e l → IsState P (swapped B l e) (exchanged_coordinates coord l e)
   step_keeps e l E L =
       let le : e < P.columns.count = vector_within e E.high in
       let be : B e ≡ false = entering_outside e E in
@@ -98,9 +98,9 @@ module _ (P : Program) (B : ℕ → Bool) (coord start : ℕ → ℕ → Rationa
       vectors_after k lk bk nt (inr n) = H.vectors k lk (basic_after l e k bk n).1 nt
 
       positive_after : IsLexPositive (suc P.rank) (λ j. coord (order P j) l) → e < P.columns.count → B e ≡ false
-          → (k : ℕ) → k < P.columns.count → swapped B l e k ≡ true → k ≢ P.top → ((k ≡ e) ⊎ (k ≢ e)) → IsLexPositive (suc P.rank) (λ j. exchanged coord l e (order P j) k)
+          → (k : ℕ) → k < P.columns.count → swapped B l e k ≡ true → k ≢ P.top → ((k ≡ e) ⊎ (k ≢ e)) → IsLexPositive (suc P.rank) (λ j. exchanged_coordinates coord l e (order P j) k)
       positive_after posl le be k lk bk nt (inl s) =
-          subst (λ (k : ℕ). IsLexPositive (suc P.rank) (λ j. exchanged coord l e (order P j) k)) (sym s)
+          subst (λ (k : ℕ). IsLexPositive (suc P.rank) (λ j. exchanged_coordinates coord l e (order P j) k)) (sym s)
           (lex_same (suc P.rank) _ _ (λ j m. list_here l e (order P j) le (order_within j m) be) (lex_quotient (suc P.rank) _ (coord e l) L.candidate.positive posl))
       positive_after posl le be k lk bk nt (inr n) =
           let before = basic_after l e k bk n in
@@ -109,14 +109,14 @@ module _ (P : Program) (B : ℕ → Bool) (coord start : ℕ → ℕ → Rationa
 
   -- the list of t grows
   pub step_grows : (e l : ℕ) → IsEntering P coord e → IsLeaving P B coord e l
-      → IsLexBelow (suc P.rank) (λ j. coord (order P j) P.top) (λ j. exchanged coord l e (order P j) P.top)
+      → IsLexBelow (suc P.rank) (λ j. coord (order P j) P.top) (λ j. exchanged_coordinates coord l e (order P j) P.top)
   step_grows e l E L =
       lex_below (suc P.rank) _ _
       (lex_same (suc P.rank) _ _ (λ j m. change j)
       (lex_times (suc P.rank) (neg_ℚ (coord e P.top)) _ ((negative_opposite _).0 E.negative)
       (lex_quotient (suc P.rank) (λ j. coord (order P j) l) (coord e l) L.candidate.positive (H.positive l L.candidate.within L.candidate.basic L.candidate.other))))
     where
-      change : (j : ℕ) → neg_ℚ (coord e P.top) *ℚ (coord (order P j) l /ℚ coord e l) ≡ exchanged coord l e (order P j) P.top +ℚ neg_ℚ (coord (order P j) P.top)
+      change : (j : ℕ) → neg_ℚ (coord e P.top) *ℚ (coord (order P j) l /ℚ coord e l) ≡ exchanged_coordinates coord l e (order P j) P.top +ℚ neg_ℚ (coord (order P j) P.top)
       change j =
           ring_ℚ (coord (order P j) P.top ∷ coord e P.top ∷ (coord (order P j) l /ℚ coord e l) ∷ []) (neg v1 ⊗ v2) ((v0 ⊕ neg v1 ⊗ v2) ⊕ neg v0) refl
           ∙ ap (λ w. w +ℚ neg_ℚ (coord (order P j) P.top)) (sym (list_other l e P.top (order P j) (λ s. R.top_apart e E.low E.high (sym s))))

@@ -3,10 +3,11 @@ use Rattle.std.specs.Prelude.{◌≡◌, ◌≢◌, ℕ, zero, suc, ◌+◌, ◌
 use Rattle.std.proofs.Common.{arith, sym, ◌∙◌, ap, refl, subst, inl, inr}
 use Rattle.exact_forms.specs.Rational.{Rational, ◌+ℚ◌, neg_ℚ}
 use Rattle.exact_forms.specs.Signs.{IsPositive}
-use Rattle.exact_forms.specs.Coordinates.{IsShown, swapped, exchanged}
+use Rattle.exact_forms.specs.Coordinates.{IsShown, swapped, exchanged_coordinates}
 use Rattle.exact_forms.specs.Lexicographic.{IsLexBelow}
 use Rattle.exact_forms.proofs.Shown.{exchange_shown}
 use Rattle.exact_forms.proofs.Slacks.{same_or_not}
+use Rattle.exact_linear.proofs.Rectangles.{exchanged_rectangle}
 use Rattle.exact_linear.specs.Tables.{Table, rows_of, table_entry, basic_at}
 use Rattle.exact_linear.specs.Exchange.{exchanged as exchanged_table}
 use Rattle.exact_linear.proofs.Exchanges.{exchanged_rows, exchanged_width, exchanged_is}
@@ -14,7 +15,6 @@ use Rattle.exact_lp.specs.Rule.{target, beats, is_candidate, better, leaving_row
 use Rattle.exact_lp.specs.Program.{Program, IsProgram, IsEntering, IsLeaving, IsNonnegativeProgram, ratios}
 use Rattle.exact_lp.specs.Placement.{leaving, stepped}
 use Rattle.exact_lp.proofs.Leaving.{lex_cases, lex_transitive, no_ties, has_candidate}
-use Rattle.exact_lp.proofs.Meaning.{exchanged_rectangle}
 use Rattle.exact_lp.proofs.Step.{entering_outside, step_keeps}
 use Rattle.exact_lp.proofs.Tableaux.{IsTableau}
 use Rattle.exact_lp.proofs.TableFacts.{last_or_before, quotients, beats_is, beats_not, vector_within, candidate_fact, candidate_row, quotients_are}
@@ -154,21 +154,21 @@ module _ (P : Program) (t : Table) (m : ℕ) (cs : List ℕ) (B : ℕ → Bool) 
 
   -- ---- the table after a step
   stepped_shown : (e r : ℕ) → IsEntering P coord e → r < rows_of t
-      → IsShown P.columns (swapped B (basic_at t r) e) (exchanged coord (basic_at t r) e) (rows_of (exchanged_table t r e)) (table_entry (exchanged_table t r e)) (basic_at (exchanged_table t r e))
+      → IsShown P.columns (swapped B (basic_at t r) e) (exchanged_coordinates coord (basic_at t r) e) (rows_of (exchanged_table t r e)) (table_entry (exchanged_table t r e)) (basic_at (exchanged_table t r e))
   stepped_shown e r E lr =
       let le : e < P.columns.count = entering_within e E in
-      subst (λ (n : ℕ). IsShown P.columns (swapped B (basic_at t r) e) (exchanged coord (basic_at t r) e) n (table_entry (exchanged_table t r e)) (basic_at (exchanged_table t r e))) (sym (exchanged_rows t r e))
+      subst (λ (n : ℕ). IsShown P.columns (swapped B (basic_at t r) e) (exchanged_coordinates coord (basic_at t r) e) n (table_entry (exchanged_table t r e)) (basic_at (exchanged_table t r e))) (sym (exchanged_rows t r e))
       (exchange_shown P.columns B coord (rows_of t) (table_entry t) (basic_at t) T.state.basis T.shown r e lr le (entering_outside P B coord start R T.state e E) (table_entry (exchanged_table t r e)) (basic_at (exchanged_table t r e))
       (exchanged_is t P.columns.count r e T.rectangle T.count lr (let c = T.count in omega arith)))
 
   pub step_tableau : (e r : ℕ) → IsEntering P coord e → leaving t m cs e ≡ Some r
-      → IsTableau P (stepped t m cs e) m cs (swapped B (basic_at t r) e) (exchanged coord (basic_at t r) e)
+      → IsTableau P (stepped t m cs e) m cs (swapped B (basic_at t r) e) (exchanged_coordinates coord (basic_at t r) e)
   step_tableau e r E h =
       let lr : r < rows_of t = (leaving_row_is e r E h).row in
       let le : e < P.columns.count = entering_within e E in
       let er = exchanged_rows t r e in
       let ew = exchanged_width t r e in
-      subst (λ (n : Table). IsTableau P n m cs (swapped B (basic_at t r) e) (exchanged coord (basic_at t r) e)) (sym (stepped_is t m cs e r h))
+      subst (λ (n : Table). IsTableau P n m cs (swapped B (basic_at t r) e) (exchanged_coordinates coord (basic_at t r) e)) (sym (stepped_is t m cs e r h))
       record {
         state = step_keeps P B coord start R T.state e (basic_at t r) E (leaving_fact e r E h);
         shown = stepped_shown e r E lr;

@@ -18,7 +18,7 @@ use Rattle.fraction128.proofs.Orders.{order_of_ranks}
 use Rattle.exact_linear.specs.Tables.{Table, rows_of, table_entry, basic_at}
 use Rattle.exact_linear.proofs.Places.{first_found, first_none}
 use Rattle.exact_lp.specs.Rule.{target, top, is_negative, is_positive, ratio_at, beats, is_candidate, is_inside, entering, goes_down, top_row}
-use Rattle.exact_lp.specs.Program.{Program, order, IsProgram, IsInside, IsOutside, IsEntering, IsCandidate, ratios}
+use Rattle.exact_lp.specs.Program.{Program, order, IsProgram, EndsInside, EndsOutside, IsEntering, MayLeave, ratios}
 use Rattle.exact_lp.proofs.Meaning.{IsReady, top_row_is}
 use Rattle.exact_lp.proofs.Right.{negative_fact, not_negative_fact}
 use Rattle.exact_lp.proofs.Tableaux.{IsTableau}
@@ -148,7 +148,7 @@ module _ (P : Program) (t : Table) (m : ℕ) (cs : List ℕ) (B : ℕ → Bool) 
   at_target : table_entry t (top_row t m) (target t m) ≡ coord P.target P.top
   at_target = ap (λ (c : ℕ). table_entry t (top_row t m) c) (sym T.target_is) ∙ at_top P.target target_within
 
-  pub inside_fact : is_inside t m ≡ true → IsInside P coord
+  pub inside_fact : is_inside t m ≡ true → EndsInside P coord
   unfolding is_inside
   inside_fact h = record { here = subst IsNonnegative at_target (not_negative_fact (table_entry t (top_row t m) (target t m)) (turned_back (is_negative (table_entry t (top_row t m) (target t m))) h)) }
 
@@ -171,7 +171,7 @@ module _ (P : Program) (t : Table) (m : ℕ) (cs : List ℕ) (B : ℕ → Bool) 
         first = λ k l u. subst IsNonnegative (at_top k (vector_within k (omega arith))) (not_negative_fact (table_entry t (top_row t m) k) (f.before k (omega arith) u));
       }
 
-  pub outside_fact : entering t m ≡ None → is_inside t m ≡ false → IsOutside P coord
+  pub outside_fact : entering t m ≡ None → is_inside t m ≡ false → EndsOutside P coord
   unfolding entering
   outside_fact h n = record {
     here = not_inside_fact n;
@@ -181,7 +181,7 @@ module _ (P : Program) (t : Table) (m : ℕ) (cs : List ℕ) (B : ℕ → Bool) 
   }
 
   -- ---- candidates
-  pub candidate_fact : (e i : ℕ) → e < P.columns.count → i < rows_of t → is_candidate t m e i ≡ true → IsCandidate P B coord e (basic_at t i)
+  pub candidate_fact : (e i : ℕ) → e < P.columns.count → i < rows_of t → is_candidate t m e i ≡ true → MayLeave P B coord e (basic_at t i)
   candidate_fact e i le li h =
       let p = candidate_parts t m e i h in
       record {
@@ -191,7 +191,7 @@ module _ (P : Program) (t : Table) (m : ℕ) (cs : List ℕ) (B : ℕ → Bool) 
         positive = subst IsPositive (T.shown.entry i e li le) p.1;
       }
 
-  pub candidate_row : (e k : ℕ) → e < P.columns.count → IsCandidate P B coord e k → (i : ℕ) × (i < rows_of t) × (basic_at t i ≡ k) × (is_candidate t m e i ≡ true)
+  pub candidate_row : (e k : ℕ) → e < P.columns.count → MayLeave P B coord e k → (i : ℕ) × (i < rows_of t) × (basic_at t i ≡ k) × (is_candidate t m e i ≡ true)
   candidate_row e k le C =
       let i = T.shown.every k C.within C.basic in (
         i.0,

@@ -8,34 +8,29 @@ use Rattle.symmetric_matrix.specs.declared.operation.IntOp.{IntOp}
 use Rattle.symmetric_matrix.specs.Operations.{is_owed}
 use Rattle.symmetric_matrix.specs.Owed.{answer, tagged, first_owed}
 use Rattle.symmetric_matrix.proofs.Owed.{answer_tagged, answer-append_err, answer-append_ok, answer_nothing, none_of_ok, some_of_err, first_owed-append_none, first_owed-append_some}
-use Rattle.exact_linear.specs.Tables.{Table, rows_of, table_entry}
+use Rattle.exact_linear.proofs.Seeking.{drop_at, IsGathered, gather_start}
+use Rattle.exact_linear.specs.Tables.{Table, rows_of, table_entry, is_basic, contains}
 use Rattle.exact_lp.specs.declared.placed.PlaceOp.{PlaceOp}
 use Rattle.exact_lp.specs.declared.placed.PlaceOp.TheVariants.{Weight}
-use Rattle.exact_lp.specs.Rule.{top, is_basic, is_positive}
-use Rattle.exact_lp.specs.Placement.{place_is_owed, first_owed_in, contains, at_target, is_raised, coefficient, coefficient_ops, weight_ops, weights, zeros_of, is_basic_vector, first_above}
-use Rattle.exact_lp.proofs.Choices.{drop_at}
-use Rattle.exact_lp.proofs.Seeking.{IsGathered, gather_start}
-
--- ---- a list looked through
-pub record IsLooking (whole : List ℕ) (x k : ℕ) : Type 0 where
-  pub same : contains whole x ≡ contains (drop k whole) x
+use Rattle.exact_lp.specs.Rule.{top, is_positive}
+use Rattle.exact_lp.specs.Placement.{place_is_owed, first_owed_in, at_target, is_raised, coefficient, coefficient_ops, weight_ops, weights, zeros_of, is_basic_vector, first_above}
 
 -- ---- the first above
-pub record IsAbove (t : Table) (r : ℕ) (whole : List ℕ) (k : ℕ) : Type 0 where
+pub record IsFirstAboveFrom (t : Table) (r : ℕ) (whole : List ℕ) (k : ℕ) : Type 0 where
   pub same : first_above t r whole ≡ first_above t r (drop k whole)
 
-above_here : (t : Table) (r : ℕ) (whole : List ℕ) (k c : ℕ) → IsAbove t r whole k → k < length whole → c ≡ get_or whole k 0
+above_here : (t : Table) (r : ℕ) (whole : List ℕ) (k c : ℕ) → IsFirstAboveFrom t r whole k → k < length whole → c ≡ get_or whole k 0
     → first_above t r whole ≡ (if is_positive (table_entry t r c) then c else first_above t r (drop (k + 1) whole))
 unfolding first_above
 above_here t r whole k c S l e = S.same ∙ ap (λ (cs : List ℕ). first_above t r cs) (drop_at whole k c l e)
 
-pub above_found : (t : Table) (r : ℕ) (whole : List ℕ) (k c : ℕ) → IsAbove t r whole k → k < length whole → c ≡ get_or whole k 0 → is_positive (table_entry t r c) ≡ true → c ≡ first_above t r whole
+pub above_found : (t : Table) (r : ℕ) (whole : List ℕ) (k c : ℕ) → IsFirstAboveFrom t r whole k → k < length whole → c ≡ get_or whole k 0 → is_positive (table_entry t r c) ≡ true → c ≡ first_above t r whole
 above_found t r whole k c S l e h = sym (above_here t r whole k c S l e ∙ ap (λ (b : Bool). if b then c else first_above t r (drop (k + 1) whole)) h)
 
-pub above_more : (t : Table) (r : ℕ) (whole : List ℕ) (k c : ℕ) → IsAbove t r whole k → k < length whole → c ≡ get_or whole k 0 → is_positive (table_entry t r c) ≡ false → IsAbove t r whole (k + 1)
+pub above_more : (t : Table) (r : ℕ) (whole : List ℕ) (k c : ℕ) → IsFirstAboveFrom t r whole k → k < length whole → c ≡ get_or whole k 0 → is_positive (table_entry t r c) ≡ false → IsFirstAboveFrom t r whole (k + 1)
 above_more t r whole k c S l e h = record { same = above_here t r whole k c S l e ∙ ap (λ (b : Bool). if b then c else first_above t r (drop (k + 1) whole)) h }
 
-pub above_done : (t : Table) (r : ℕ) (whole : List ℕ) (k : ℕ) → IsAbove t r whole k → length whole ≤ k → 0 ≡ first_above t r whole
+pub above_done : (t : Table) (r : ℕ) (whole : List ℕ) (k : ℕ) → IsFirstAboveFrom t r whole k → length whole ≤ k → 0 ≡ first_above t r whole
 unfolding first_above
 above_done t r whole k S l = sym (S.same ∙ ap (λ (cs : List ℕ). first_above t r cs) (drop_of_length-le whole {i = k} l))
 

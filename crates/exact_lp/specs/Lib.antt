@@ -1,9 +1,8 @@
 pub mod Program
 pub mod Rule
 pub mod Placement
-pub mod Squares
 pub mod Weights
+pub mod OfVectors
 pub mod Simplex
-pub mod Separation
 pub mod Ruled
 pub mod Theorems

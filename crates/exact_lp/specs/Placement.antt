@@ -1,7 +1,7 @@
 -- The linear program step by step: its operations in their order, and what `place` answers.
 --
 --     Problem              the table over the units, how many vectors there are, and the number that the weights are divided by
---     units p              how many units there are
+--     problem_of vectors s d   the one whose columns are the vectors' matrices and whose target is S, the weights divided by d
 --     place_is_owed op     the result of this operation does not fit
 --     first_owed_in ops    the first such operation of a list
 --     first_table p        the table of the first basis; firsts p the columns of the first basis
@@ -16,7 +16,6 @@
 --     is_last p k          it is written so after k steps, or over the first basis already
 --     IsStepDue p k        neither is it so, nor is there no entering vector
 --     HasLeavingRows p     at each step that is due a row can leave
---     contains cs c        c is in the list
 --     at_target t m c      the coordinate of the target at column c, which is 0 where c is not basic
 --     is_raised t m firsts v   t is basic, and vector v in the first basis: t's coefficient is added to that of v
 --     coefficient t m firsts v    the coefficient of vector v in the answer Inside, before it is divided
@@ -27,42 +26,47 @@
 --     is_basic_vector t v, zeros_of t m   vector v is basic; the basic vectors
 --     first_above t r cs   the first of the columns cs with a positive entry in row r
 --     outside_vector t m firsts   the first vector of the first basis whose entry in the row of t is positive
---     IsWeighed t m firsts d steps a       a is what the weights of the table t answer
+--     IsWeightsAnswer t m firsts d steps a  a is what the weights of the table t answer
 --     IsOutsideAnswer t m firsts steps a   a is what the basis of the table t answers
 --     opening_ops p k      the operations after step k, up to where it is known which of the three ends applies
 --     closing_ops p k      those from there to the next step, or to the end
 --     leg_ops p k          all operations after step k and before the next one, or to the end
 --     legs p k             those of the first k legs
---     IsRun p steps        these are the first steps, none is lacking, and no operation up to them is owed
+--     is_step_due p k      another step is due after k steps
+--     ops_within p budget k    those that are due after step k: where another step is due and none is left, up to its refusal
+--     IsRun p budget steps     these are the first steps, at most so many, none is lacking, and no operation up to them is owed
 --     IsInsideAfter, IsOutsideAfter, IsRefusedAfter, IsOwedAfter   the answers Inside, Outside, Pivots and Wide fit after k steps
---     IsPlaced p budget a  a is an answer that fits with at most so many steps
---     IsDue p budget a     each answer that fits is a, want of memory aside: so a comes exactly where it fits
+--     IsPlaceAnswer p budget a  a is an answer that fits with at most so many steps
+--     IsOnlyAnswer p budget a  each answer that fits is a, want of memory aside: so a comes exactly where it fits
 --
 -- Rows, columns and vectors count from 0.
-use Rattle.std.specs.Prelude.{ℕ, zero, suc, ◌+◌, ◌-◌, ◌<◌, ◌≤◌, ◌≡◌, ◌≢◌, pos, Bool, true, false, ◌&&◌, ◌||◌, ◌⊎◌, List, [], ◌∷◌, ◌++◌, map, length, Option, Some, None, Result, Ok, Err, if◌then◌else◌, nat_eq}
+use Rattle.std.specs.Prelude.{ℕ, zero, suc, ◌+◌, ◌-◌, ◌<◌, ◌≤◌, ◌≡◌, ◌≢◌, ℤ, pos, Bool, true, false, not, ◌&&◌, ◌||◌, ◌⊎◌, List, [], ◌∷◌, ◌++◌, map, length, Option, Some, None, Result, Ok, Err, if◌then◌else◌, nat_eq}
 use Rattle.std.specs.List.{range_with_len}
 use Rattle.exact_forms.specs.Rational.{Rational, whole, ◌+ℚ◌, ◌/ℚ◌}
 use Rattle.fraction128.specs.Recipes.{add_ops, div_ops}
+use Rattle.symmetric_matrix.specs.Symmetric.{Symmetric}
 use Rattle.symmetric_matrix.specs.Operations.{is_owed}
 use Rattle.symmetric_matrix.specs.Owed.{first_owed}
 use Rattle.exact_linear.specs.declared.entry.EntryOp.{EntryOp}
-use Rattle.exact_linear.specs.Tables.{Table, rows_of, table_entry, basic_at, places_where}
-use Rattle.exact_linear.specs.Columns.{with_sum}
+use Rattle.exact_linear.specs.Tables.{Table, rows_of, table_entry, basic_at, places_where, or_zero, is_there, row_of, is_basic, contains}
+use Rattle.exact_linear.specs.Columns.{start_table, with_sum}
 use Rattle.exact_linear.specs.Exchange.{entry_is_owed, exchange_ops, exchanged, first_bases, first_ops}
+use Rattle.exact_linear.specs.Squares.{squares}
 use Rattle.exact_lp.specs.declared.placed.Exchange.{Exchange}
 use Rattle.exact_lp.specs.declared.placed.PlaceOp.{PlaceOp}
 use Rattle.exact_lp.specs.declared.placed.PlaceOp.TheVariants.{Tableau, Weight}
 use Rattle.exact_lp.specs.declared.placed.Placed.{Placed}
 use Rattle.exact_lp.specs.declared.placed.Placed.TheVariants.{Inside, Outside, Pivots, Wide, OutOfMemory}
-use Rattle.exact_lp.specs.Rule.{target, top, is_positive, or_zero, is_there, row_of, is_basic, top_row, first_columns, is_settled, least_row, is_inside, entering, leaving_row, leaving_ops}
+use Rattle.exact_lp.specs.Rule.{target, top, is_positive, top_row, first_columns, is_settled, least_row, is_inside, entering, leaving_row, leaving_ops}
 
 pub record Problem : Type 0 where
   pub start : Table
   pub vectors : ℕ
   pub d : Rational
 
-abbrev pub units : Problem → ℕ
-units p = rows_of p.start
+abbrev pub problem_of : List (List ℕ) → Symmetric → ℤ → Problem
+problem_of vectors s d =
+    record { start = start_table s.size (squares vectors ++ s ∷ []); vectors = length vectors; d = whole d }
 
 abbrev pub place_is_owed : PlaceOp → Bool
 place_is_owed (Tableau e) = entry_is_owed e
@@ -135,10 +139,6 @@ pub record HasLeavingRows (p : Problem) : Type 0 where
   pub row : (k : ℕ) → ((j : ℕ) → j ≤ k → IsStepDue p j) → leaving (table_after p k) p.vectors (firsts p) (or_zero (entering (table_after p k) p.vectors)) ≢ None
 
 -- ---- the ends
-abbrev pub contains : List ℕ → ℕ → Bool
-contains [] x = false
-contains (y ∷ ys) x = nat_eq y x || contains ys x
-
 abbrev pub at_target : Table → ℕ → ℕ → Rational
 at_target t m c = elim (row_of t c) as (λ _. Rational) [ None ↦ whole (pos 0) | Some i ↦ table_entry t i (target t m) ]
 
@@ -181,12 +181,12 @@ abbrev pub outside_vector : Table → ℕ → List ℕ → ℕ
 outside_vector t m firsts = first_above t (top_row t m) firsts - rows_of t
 
 -- what the weights of a table answer
-abbrev pub IsWeighed : Table → ℕ → List ℕ → Rational → List Exchange → Placed → Type 0
-IsWeighed t m firsts d steps (Inside found made) = (made ≡ steps) × ((first_owed_in (weight_ops t m firsts d 0 m) ≡ None) × (found ≡ weights t m firsts d m))
-IsWeighed t m firsts d steps (Outside zeros vector made) = ⊥
-IsWeighed t m firsts d steps (Pivots made) = ⊥
-IsWeighed t m firsts d steps (Wide op made) = (made ≡ steps) × (first_owed_in (weight_ops t m firsts d 0 m) ≡ Some op)
-IsWeighed t m firsts d steps OutOfMemory = Unit {0}
+abbrev pub IsWeightsAnswer : Table → ℕ → List ℕ → Rational → List Exchange → Placed → Type 0
+IsWeightsAnswer t m firsts d steps (Inside found made) = (made ≡ steps) × ((first_owed_in (weight_ops t m firsts d 0 m) ≡ None) × (found ≡ weights t m firsts d m))
+IsWeightsAnswer t m firsts d steps (Outside zeros vector made) = ⊥
+IsWeightsAnswer t m firsts d steps (Pivots made) = ⊥
+IsWeightsAnswer t m firsts d steps (Wide op made) = (made ≡ steps) × (first_owed_in (weight_ops t m firsts d 0 m) ≡ Some op)
+IsWeightsAnswer t m firsts d steps OutOfMemory = Unit {0}
 
 -- what the basis of a table answers
 abbrev pub IsOutsideAnswer : Table → ℕ → List ℕ → List Exchange → Placed → Type 0
@@ -238,18 +238,23 @@ pub record IsRefusedAfter (p : Problem) (budget k : ℕ) : Type 0 where
   pub due : IsStepDue p k
   pub owes : first_owed_in (opening_ops p k) ≡ None
 
--- where no step is left the operations end before those of the next one
-pub record IsOwedAfter (p : Problem) (budget : ℕ) (op : PlaceOp) (k : ℕ) : Type 0 where
-  pub first : first_owed_in (leg_ops p k) ≡ Some op
-  pub before : k ≡ budget → IsStepDue p k → first_owed_in (opening_ops p k) ≡ Some op
+abbrev pub is_step_due : Problem → ℕ → Bool
+is_step_due p k = not (is_last p k) && is_there (entering (table_after p k) p.vectors)
 
-abbrev pub IsPlaced : Problem → ℕ → Placed → Type 0
-IsPlaced p budget (Inside found steps) = IsRun p budget steps × IsInsideAfter p found (length steps)
-IsPlaced p budget (Outside zeros vector steps) = IsRun p budget steps × IsOutsideAfter p zeros vector (length steps)
-IsPlaced p budget (Pivots steps) = IsRun p budget steps × IsRefusedAfter p budget (length steps)
-IsPlaced p budget (Wide op steps) = IsRun p budget steps × IsOwedAfter p budget op (length steps)
-IsPlaced p budget OutOfMemory = Unit {0}
+-- where no step is left the operations end before those of the next one
+unfoldable pub ops_within : Problem → ℕ → ℕ → List PlaceOp
+ops_within p budget k = if nat_eq k budget && is_step_due p k then opening_ops p k else leg_ops p k
+
+abbrev pub IsOwedAfter : Problem → ℕ → PlaceOp → ℕ → Type 0
+IsOwedAfter p budget op k = first_owed_in (ops_within p budget k) ≡ Some op
+
+abbrev pub IsPlaceAnswer : Problem → ℕ → Placed → Type 0
+IsPlaceAnswer p budget (Inside found steps) = IsRun p budget steps × IsInsideAfter p found (length steps)
+IsPlaceAnswer p budget (Outside zeros vector steps) = IsRun p budget steps × IsOutsideAfter p zeros vector (length steps)
+IsPlaceAnswer p budget (Pivots steps) = IsRun p budget steps × IsRefusedAfter p budget (length steps)
+IsPlaceAnswer p budget (Wide op steps) = IsRun p budget steps × IsOwedAfter p budget op (length steps)
+IsPlaceAnswer p budget OutOfMemory = Unit {0}
 
 -- want of memory aside, whatever answer fits is the one that was given
-abbrev pub IsDue : Problem → ℕ → Placed → Type 0
-IsDue p budget answered = (a : Placed) → IsPlaced p budget a → (answered ≡ a) ⊎ ((answered ≡ OutOfMemory) ⊎ (a ≡ OutOfMemory))
+abbrev pub IsOnlyAnswer : Problem → ℕ → Placed → Type 0
+IsOnlyAnswer p budget answered = (a : Placed) → IsPlaceAnswer p budget a → (answered ≡ a) ⊎ ((answered ≡ OutOfMemory) ⊎ (a ≡ OutOfMemory))

@@ -7,19 +7,18 @@
 --                             ones it is the last
 --     IsState P B coord       t is in the basis B beside columns of vectors, and the list of coordinates of each of these is
 --                             lexicographically positive
---     IsInside P coord        the target has a coordinate of at least 0 at t: it is a nonnegative combination
---     IsOutside P coord       it has a negative one, and no vector has: it is none
+--     EndsInside P coord      the target has a coordinate of at least 0 at t: it is a nonnegative combination
+--     EndsOutside P coord     it has a negative one, and no vector has: it is none
 --     IsEntering P coord e    the first vector with a negative coordinate at t
---     IsCandidate P B coord e k   a column of the basis beside t at which e has a positive coordinate
+--     MayLeave P B coord e k      a column of the basis beside t at which e has a positive coordinate
 --     ratios P coord e k      the list of k, divided by the coordinate of e
 --     IsLeaving P B coord e l   the candidate whose list of ratios is lexicographically least
 --     weight P coord k        the weight of column k in the answer Inside
---     IsFactored P w          nonnegative weights of the vectors' columns that write the target
 --     IsNonnegativeProgram P  the entries of the vectors' columns and of t are at least 0
 --
 -- The coordinates of column j over a basis are coord j; a basis is a test of columns. Columns count from 0.
-use Rattle.std.specs.Prelude.{ℕ, zero, suc, ◌≡◌, ◌≢◌, ◌<◌, ◌≤◌, pos, Bool, true, ◌⊎◌, cond, eqb}
-use Rattle.exact_forms.specs.Rational.{Rational, whole, ◌+ℚ◌, ◌*ℚ◌, ◌/ℚ◌, neg_ℚ}
+use Rattle.std.specs.Prelude.{ℕ, zero, suc, ◌≡◌, ◌≢◌, ◌<◌, ◌≤◌, pos, Bool, true, cond, eqb}
+use Rattle.exact_forms.specs.Rational.{Rational, whole, ◌+ℚ◌, ◌/ℚ◌, neg_ℚ}
 use Rattle.exact_forms.specs.Sums.{sum_ℚ}
 use Rattle.exact_forms.specs.Signs.{IsPositive, IsNegative, IsNonnegative}
 use Rattle.exact_forms.specs.Lexicographic.{IsLexPositive, IsLexBelow}
@@ -51,10 +50,10 @@ pub record IsProgram (P : Program) (coord : ℕ → ℕ → Rational) : Type 0 w
   pub increasing : (i j : ℕ) → i < j → j < P.rank → P.first i < P.first j
   pub top_is_sum : (a b : ℕ) → a < P.columns.size → b < P.columns.size → P.columns.entry P.top a b ≡ sum_ℚ P.rank (λ j. P.columns.entry (P.first j) a b)
 
-pub record IsInside (P : Program) (coord : ℕ → ℕ → Rational) : Type 0 where
+pub record EndsInside (P : Program) (coord : ℕ → ℕ → Rational) : Type 0 where
   pub here : IsNonnegative (coord P.target P.top)
 
-pub record IsOutside (P : Program) (coord : ℕ → ℕ → Rational) : Type 0 where
+pub record EndsOutside (P : Program) (coord : ℕ → ℕ → Rational) : Type 0 where
   pub here : IsNegative (coord P.target P.top)
   pub none : (k : ℕ) → P.low ≤ k → k < P.high → IsNonnegative (coord k P.top)
 
@@ -64,7 +63,7 @@ pub record IsEntering (P : Program) (coord : ℕ → ℕ → Rational) (e : ℕ)
   pub negative : IsNegative (coord e P.top)
   pub first : (k : ℕ) → P.low ≤ k → k < e → IsNonnegative (coord k P.top)
 
-pub record IsCandidate (P : Program) (B : ℕ → Bool) (coord : ℕ → ℕ → Rational) (e k : ℕ) : Type 0 where
+pub record MayLeave (P : Program) (B : ℕ → Bool) (coord : ℕ → ℕ → Rational) (e k : ℕ) : Type 0 where
   pub within : k < P.columns.count
   pub basic : B k ≡ true
   pub other : k ≢ P.top
@@ -75,8 +74,8 @@ abbrev pub ratios : Program → (ℕ → ℕ → Rational) → ℕ → ℕ → �
 ratios P coord e k j = coord (order P j) k /ℚ coord e k
 
 pub record IsLeaving (P : Program) (B : ℕ → Bool) (coord : ℕ → ℕ → Rational) (e l : ℕ) : Type 0 where
-  pub candidate : IsCandidate P B coord e l
-  pub least : (k : ℕ) → IsCandidate P B coord e k → k ≢ l → IsLexBelow (suc P.rank) (ratios P coord e l) (ratios P coord e k)
+  pub candidate : MayLeave P B coord e l
+  pub least : (k : ℕ) → MayLeave P B coord e k → k ≢ l → IsLexBelow (suc P.rank) (ratios P coord e l) (ratios P coord e k)
 
 pub record IsState (P : Program) (B : ℕ → Bool) (coord : ℕ → ℕ → Rational) : Type 0 where
   pub basis : IsBasis P.columns B coord
@@ -87,12 +86,6 @@ pub record IsState (P : Program) (B : ℕ → Bool) (coord : ℕ → ℕ → Rat
 -- the weight of column k in the answer Inside
 unfoldable pub weight : Program → (ℕ → ℕ → Rational) → ℕ → Rational
 weight P coord k = cond (eqb k P.top) (whole (pos 0)) (coord P.target k) +ℚ cond (P.chosen k) (coord P.target P.top) (whole (pos 0))
-
--- nonnegative weights of the vectors' columns that write the target
-pub record IsFactored (P : Program) (w : ℕ → Rational) : Type 0 where
-  pub vectors : (k : ℕ) → k < P.columns.count → ((k < P.low) ⊎ (P.high ≤ k)) → w k ≡ whole (pos 0)
-  pub nonnegative : (k : ℕ) → k < P.columns.count → IsNonnegative (w k)
-  pub sum : (a b : ℕ) → a < P.columns.size → b < P.columns.size → sum_ℚ P.columns.count (λ k. w k *ℚ P.columns.entry k a b) ≡ P.columns.entry P.target a b
 
 -- the place of the first basis at which t comes in: the least coordinate of the target, the last among equals
 pub record IsLeastPlace (P : Program) (coord : ℕ → ℕ → Rational) (i : ℕ) : Type 0 where

@@ -4,11 +4,7 @@
 --
 --     target t m, top t m      the columns of the target and of t
 --     is_negative x, is_positive x    x is below 0; above 0
---     or_zero o, is_there o    the number that may be there, or 0; whether it is there
---     holds t c i              the basic column of row i is c
---     row_of t c               that row
 --     top_row t m              the row of t
---     is_basic t c             c is basic in some row
 --     first_columns t m        the vectors' columns that are basic, in increasing order
 --     is_below t m i           the target's entry in row i is negative
 --     is_settled t m           the target has no negative entry
@@ -32,7 +28,7 @@ use Rattle.std.specs.declared.cmp.Ordering.TheVariants.{Less, Equal, Greater}
 use Rattle.exact_forms.specs.Rational.{Rational, ◌/ℚ◌}
 use Rattle.fraction128.specs.Order.{order_of}
 use Rattle.exact_linear.specs.declared.entry.EntryOp.{EntryOp}
-use Rattle.exact_linear.specs.Tables.{Table, rows_of, table_entry, basic_at, first_place, places_where}
+use Rattle.exact_linear.specs.Tables.{Table, rows_of, table_entry, basic_at, first_place, places_where, or_zero, is_there, row_of, is_basic}
 use Rattle.exact_linear.specs.Exchange.{divide_entry}
 
 abbrev pub target : Table → ℕ → ℕ
@@ -46,23 +42,6 @@ is_negative x = elim x.num [ pos n ↦ false | negsuc n ↦ true ]
 
 abbrev pub is_positive : Rational → Bool
 is_positive x = elim x.num [ pos n ↦ nat_lt 0 n | negsuc n ↦ false ]
-
-abbrev pub or_zero : Option ℕ → ℕ
-or_zero (Some i) = i
-or_zero None = 0
-
-abbrev pub is_there : Option ℕ → Bool
-is_there (Some i) = true
-is_there None = false
-
-abbrev pub holds : Table → ℕ → ℕ → Bool
-holds t c i = nat_eq (basic_at t i) c
-
-unfoldable pub row_of : Table → ℕ → Option ℕ
-row_of t c = first_place (holds t c) 0 (rows_of t)
-
-abbrev pub is_basic : Table → ℕ → Bool
-is_basic t c = is_there (row_of t c)
 
 unfoldable pub top_row : Table → ℕ → ℕ
 top_row t m = or_zero (row_of t (top t m))

@@ -7,29 +7,26 @@
 --     IsSimplexRun P B coord steps    each step begins at a state where the target has a negative coordinate at t; its entering vector is
 --                              the first with a negative coordinate at t, its leaving one has the lexicographically least list of
 --                              ratios; t's list of coordinates grows with each step, so that no basis comes twice
---     name_at names i          number i of a list of vectors
 --     IsNamed P names k        column k is that of a vector of the list
 --     IsOutsideOf P B coord zeros vector   the zeros are the vectors of the basis B, in increasing order, one fewer than there are units;
 --                              the vector is the first one of the first basis whose coordinate at t is positive, is none of the zeros,
 --                              and its column is a basis with theirs
---     IsProgramOf P vectors s  the columns of P from P.low, which is n(n+1)/2, to P.high - 1 are the vectors' matrices, the target is S,
---                              and each unit matrix is a multiple of a column; the first basis has each vector whose matrix is no
---                              combination of those before it
+--     open_basis_of vectors s i, open_coordinates_of vectors s i    the basis and the coordinates where t has come in at the
+--                              i-th vector of the first basis
 --     IsSimplexOf vectors s steps   the steps are a run of the linear program of the vectors and S, from the state where t has come in
 --                              at the least coordinate of S over the first basis, of equal ones the last
 --
 -- B and coord are a basis that t is in and the coordinates over it. Vectors count from 0: the column of vector k is P.low + k, and
 -- P.low is how many units there are. Steps and columns count from 0.
 use Rattle.std.specs.Prelude.{ℕ, zero, suc, ◌+◌, ◌≡◌, ◌≢◌, ◌<◌, ◌≤◌, Bool, true, List, length, slice_index_or}
-use Rattle.exact_forms.specs.Rational.{Rational, whole, neg_ℚ}
+use Rattle.exact_forms.specs.Rational.{Rational, neg_ℚ}
 use Rattle.exact_forms.specs.Signs.{IsPositive, IsNegative, IsNonnegative}
 use Rattle.exact_forms.specs.Lexicographic.{IsLexBelow}
-use Rattle.exact_forms.specs.Coordinates.{IsBasis, swapped, exchanged}
-use Rattle.exact_forms.specs.RankOne.{HasVectors, HasUnits}
-use Rattle.exact_forms.specs.Triangles.{triangle}
-use Rattle.symmetric_matrix.specs.Symmetric.{Symmetric, entry}
-use Rattle.exact_linear.specs.FirstBasis.{IsFirstBasis}
+use Rattle.exact_forms.specs.Coordinates.{IsBasis, swapped, exchanged_coordinates}
+use Rattle.symmetric_matrix.specs.Symmetric.{Symmetric}
+use Rattle.exact_linear.specs.Squares.{name_at}
 use Rattle.exact_lp.specs.declared.placed.Exchange.{Exchange}
+use Rattle.exact_lp.specs.OfVectors.{program_of, over_first, IsProgramOf}
 use Rattle.exact_lp.specs.Program.{Program, order, IsProgram, IsLeastPlace, IsState, IsEntering, IsLeaving}
 
 -- ---- the steps
@@ -51,7 +48,7 @@ basis_after P B steps (suc k) = swapped (basis_after P B steps k) (leaving_colum
 
 unfoldable pub coordinates_after : Program → (ℕ → ℕ → Rational) → List Exchange → ℕ → ℕ → ℕ → Rational
 coordinates_after P coord steps zero = coord
-coordinates_after P coord steps (suc k) = exchanged (coordinates_after P coord steps k) (leaving_column P steps k) (entering_column P steps k)
+coordinates_after P coord steps (suc k) = exchanged_coordinates (coordinates_after P coord steps k) (leaving_column P steps k) (entering_column P steps k)
 
 pub record IsSimplexRun (P : Program) (B : ℕ → Bool) (coord : ℕ → ℕ → Rational) (steps : List Exchange) : Type 0 where
   pub state : (k : ℕ) → k ≤ length steps → IsState P (basis_after P B steps k) (coordinates_after P coord steps k)
@@ -62,28 +59,23 @@ pub record IsSimplexRun (P : Program) (B : ℕ → Bool) (coord : ℕ → ℕ �
   pub once : (i j : ℕ) → i < j → j ≤ length steps → ((k : ℕ) → k < P.columns.count → basis_after P B steps i k ≡ basis_after P B steps j k) → ⊥
 
 -- ---- the linear program of a list of vectors
-pub record IsProgramOf (P : Program) (vectors : List (List ℕ)) (s : Symmetric) : Type 0 where
-  pub size : P.columns.size ≡ s.size
-  pub low : P.low ≡ triangle s.size
-  pub high : P.high ≡ P.low + length vectors
-  pub units : HasUnits P.columns
-  pub has_vectors : HasVectors P.columns P.low vectors
-  pub target : (i j : ℕ) → i < s.size → j < s.size → P.columns.entry P.target i j ≡ whole (entry s i j)
-  pub first : IsFirstBasis P.columns P.low P.high P.chosen
+abbrev pub open_basis_of : List (List ℕ) → Symmetric → ℕ → ℕ → Bool
+open_basis_of vectors s i =
+    swapped (program_of vectors s).chosen ((program_of vectors s).first i) (program_of vectors s).top
+
+abbrev pub open_coordinates_of : List (List ℕ) → Symmetric → ℕ → ℕ → ℕ → Rational
+open_coordinates_of vectors s i =
+    exchanged_coordinates (over_first vectors s) ((program_of vectors s).first i) (program_of vectors s).top
 
 pub record IsSimplexOf (vectors : List (List ℕ)) (s : Symmetric) (steps : List Exchange) : Type 0 where
-  pub program : Program
-  pub start : ℕ → ℕ → Rational  -- the coordinates over the first basis
-  pub is_program : IsProgram program start
-  pub of_vectors : IsProgramOf program vectors s
+  pub is_program : IsProgram (program_of vectors s) (over_first vectors s)
+  pub of_vectors : IsProgramOf (program_of vectors s) vectors s
   pub place : ℕ
-  pub least : IsLeastPlace program start place
-  pub run : IsSimplexRun program (swapped program.chosen (program.first place) program.top) (exchanged start (program.first place) program.top) steps
+  pub least : IsLeastPlace (program_of vectors s) (over_first vectors s) place
+  pub run :
+      IsSimplexRun (program_of vectors s) (open_basis_of vectors s place) (open_coordinates_of vectors s place) steps
 
 -- ---- the answer Outside
-abbrev pub name_at : List ℕ → ℕ → ℕ
-name_at names i = slice_index_or names i 0
-
 pub record IsNamed (P : Program) (names : List ℕ) (k : ℕ) : Type 0 where
   pub place : ℕ
   pub within : place < length names
@@ -101,4 +93,4 @@ pub record IsOutsideOf (P : Program) (B : ℕ → Bool) (coord : ℕ → ℕ →
   pub vector_is : P.low + vector ≡ P.first place
   pub positive : IsPositive (coord (P.first place) P.top)
   pub before : (j : ℕ) → j < place → IsNonnegative (neg_ℚ (coord (P.first j) P.top))
-  pub is_basis : IsBasis P.columns (swapped B P.top (P.low + vector)) (exchanged coord P.top (P.low + vector))
+  pub is_basis : IsBasis P.columns (swapped B P.top (P.low + vector)) (exchanged_coordinates coord P.top (P.low + vector))

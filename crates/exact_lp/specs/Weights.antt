@@ -14,7 +14,7 @@ use Rattle.exact_forms.specs.RankOne.{AreCoordinates}
 use Rattle.symmetric_matrix.specs.Symmetric.{Symmetric, entry}
 use Rattle.exact_lp.specs.declared.placed.Placed.{Placed}
 use Rattle.exact_lp.specs.declared.placed.Placed.TheVariants.{Inside, Outside, Pivots, Wide, OutOfMemory}
-use Rattle.exact_lp.specs.Separation.{IsSeparating}
+use Rattle.exact_linear.specs.Separation.{IsSeparating}
 
 abbrev pub over : Symmetric → ℤ → ℕ → ℕ → Rational
 over s d i j = whole (entry s i j) /ℚ whole d

@@ -7,30 +7,20 @@ ghost use Rattle.symmetric_matrix.specs.Owed.{answer, tagged};
 ghost use Rattle.exact_linear.specs.Tables.{rows_of};
 ghost use Rattle.exact_lp.specs.declared.placed.PlaceOp.TheVariants.{Weight};
 ghost use Rattle.exact_lp.specs.Rule.{top, AreColumns};
-ghost use Rattle.exact_lp.specs.Placement.{place_is_owed, contains as the_contains, at_target as the_at_target, is_raised, coefficient as the_coefficient, coefficient_ops, zeros_of, first_above as the_first_above, IsWeighed, IsOutsideAnswer};
+ghost use Rattle.exact_lp.specs.Placement.{place_is_owed, at_target as the_at_target, is_raised, coefficient as the_coefficient, coefficient_ops, zeros_of, first_above as the_first_above, IsWeightsAnswer, IsOutsideAnswer};
 
 use crate::lists::{Exchanges, Indices, Weights};
 use crate::placed::{PlaceOp, Placed};
 use crate::rule::{entry_at, is_basic, is_positive, row_of, target_of, top_of, top_row};
-use exact_linear::Tableau;
+use exact_linear::{Tableau, contains};
 use fraction128::Fraction;
 use std::alloc::{AllocError, Global};
 use symmetric_matrix::IntOp;
 
-fn contains(columns: &[usize], column: usize) -> bool
-    ensures { result ≡ the_contains columns.now column }
-{
-    for listed in columns {
-        if *listed == column {
-            return true;
-        }
-    }
-    false
-}
-
 // The target's entry in the row of a basic column, else 0.
 fn at_target(tableau: &Tableau, vectors: usize, column: usize) -> Fraction
-    requires { rows_of tableau.now + vectors + 2 ≤ tableau.now.width }
+    requires width { rows_of tableau.now + vectors + 2 ≤ tableau.now.width }
+    requires column { column < tableau.now.width }
     ensures { result ≡ the_at_target tableau.now vectors column }
 {
     match row_of(tableau, column) {
@@ -99,7 +89,7 @@ pub fn inside(
 ) -> Placed
     requires width { rows_of tableau.now + vectors + 2 ≤ tableau.now.width }
     requires divisor { d ≢ whole (pos 0) }
-    ensures { IsWeighed tableau.now vectors firsts.now d steps result }
+    ensures { IsWeightsAnswer tableau.now vectors firsts.now d steps result }
 {
     let mut weights = Weights::new(alloc);
     for vector in 0..vectors {

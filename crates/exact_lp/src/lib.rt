@@ -9,7 +9,9 @@ mod rule;
 mod simplex;
 mod squares;
 
-pub use law::{at_most_one_answer, leaving_is_unique, settled_at_once};
+pub use law::{
+    at_most_one_answer, leaving_is_unique, one_run, settled_at_once, tables_have_coordinates,
+};
 pub use lists::{Exchanges, Indices, Weights};
 pub use placed::{Exchange, PlaceOp, Placed};
 pub use simplex::place;

@@ -140,6 +140,13 @@ impl Indices {
         Ok(())
     }
 
+    /// The items as a slice.
+    pub fn as_slice(&self) -> &[usize]
+        ensures { result.now ≡ self.now }
+    {
+        &self.items
+    }
+
     /// How many items there are.
     pub fn len(&self) -> usize
         ensures { result ≡ length self.now }

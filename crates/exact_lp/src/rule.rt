@@ -3,9 +3,9 @@
 ghost use Rattle.std.specs.Prelude.{◌≡◌, ◌+◌, ◌-◌, ◌<◌, ◌≤◌, ◌≢◌, pos, None, IfOk, IfSome};
 ghost use Rattle.exact_forms.specs.Rational.{whole};
 ghost use Rattle.symmetric_matrix.specs.Owed.{answer};
-ghost use Rattle.exact_linear.specs.Tables.{rows_of, table_entry, basic_at};
+ghost use Rattle.exact_linear.specs.Tables.{rows_of, table_entry, basic_at, row_of as the_row_of, is_basic as the_basic};
 ghost use Rattle.exact_linear.specs.Exchange.{entry_is_owed, divide_entry};
-ghost use Rattle.exact_lp.specs.Rule.{target, top, is_negative as the_negative, is_positive as the_positive, row_of as the_row_of, is_basic as the_basic, top_row as the_top_row, first_columns as the_first_columns, is_settled as the_settled, least_row as the_least_row, is_lower as the_lower, is_inside as the_inside, entering as the_entering, ratio_at, beats, versus_ops, is_candidate as the_candidate, leaving_row as the_leaving_row, leaving_ops, better as the_better, better_ops, AreColumns};
+ghost use Rattle.exact_lp.specs.Rule.{target, top, is_negative as the_negative, is_positive as the_positive, top_row as the_top_row, first_columns as the_first_columns, is_settled as the_settled, least_row as the_least_row, is_lower as the_lower, is_inside as the_inside, entering as the_entering, ratio_at, beats, versus_ops, is_candidate as the_candidate, leaving_row as the_leaving_row, leaving_ops, better as the_better, better_ops, AreColumns};
 
 use exact_linear::{EntryOp, Tableau, divided_entry};
 use fraction128::Fraction;
@@ -66,18 +66,19 @@ pub fn is_positive(value: &Fraction) -> bool
 
 /// The row whose basic column this is.
 pub fn row_of(tableau: &Tableau, column: usize) -> Option<usize>
+    requires { column < tableau.now.width }
     ensures { result ≡ the_row_of tableau.now column }
 {
-    for row in 0..tableau.rows() {
-        if basic_of(tableau, row) == column {
-            return Some(row);
-        }
+    let _columns = tableau.columns();
+    match tableau.row_of(column + 1) {
+        Some(row) => Some(row - 1),
+        None => None,
     }
-    None
 }
 
 /// Whether a column is basic.
 pub fn is_basic(tableau: &Tableau, column: usize) -> bool
+    requires { column < tableau.now.width }
     ensures { result ≡ the_basic tableau.now column }
 {
     row_of(tableau, column).is_some()
@@ -196,7 +197,7 @@ fn ratio(tableau: &Tableau, entering: usize, row: usize, column: usize) -> Resul
 {
     let (_rows, _columns) = (tableau.rows(), tableau.columns());
     let entry = entry_at(tableau, row, column);
-    divided_entry(row, column, entry, entry_at(tableau, row, entering))
+    divided_entry(row + 1, column + 1, entry, entry_at(tableau, row, entering))
 }
 
 // Whether a row, divided by its entry in a column, is lexicographically less than the best one so far. At each column the

@@ -8,8 +8,7 @@ ghost use Rattle.exact_linear.specs.Tables.{rows_of, table_entry, basic_at};
 ghost use Rattle.exact_linear.specs.Columns.{IsLastFree};
 ghost use Rattle.exact_linear.specs.Exchange.{entry_is_owed, exchange_ops, exchanged};
 ghost use Rattle.exact_lp.specs.Rule.{target, AreColumns};
-ghost use Rattle.exact_lp.specs.Placement.{opened, opened_ops, leaving as the_leaving, IsStepped, HasLeavingRows, IsLeft, IsPlaced, IsDue};
-ghost use Rattle.exact_lp.specs.Squares.{problem_of};
+ghost use Rattle.exact_lp.specs.Placement.{opened, opened_ops, leaving as the_leaving, IsStepped, HasLeavingRows, IsLeft, IsPlaceAnswer, IsOnlyAnswer, problem_of};
 ghost use Rattle.exact_lp.specs.Weights.{IsSound};
 ghost use Rattle.exact_lp.specs.Ruled.{IsRuled};
 
@@ -118,13 +117,13 @@ fn place_on(alloc: Global, start: Tableau, vectors: usize, d: Fraction, budget: 
     requires units { (i : ℕ) → i < rows_of start → basic_at start i < rows_of start }
     requires divisor { d ≢ whole (pos 0) }
     requires leaves { HasLeavingRows (record { start = start; vectors = vectors; d = d }) }
-    ensures { IsPlaced (record { start = start; vectors = vectors; d = d }) budget result }
+    ensures { IsPlaceAnswer (record { start = start; vectors = vectors; d = d }) budget result }
 {
-    let mut tableau = start;
     let mut steps = Exchanges::new(alloc);
-    if let Err(op) = tableau.bring_in_first(vectors) {
-        return wide(op, steps);
-    }
+    let mut tableau = match start.bring_in_first(vectors) {
+        Ok(tableau) => tableau,
+        Err(op) => return wide(op, steps),
+    };
     let Ok(firsts) = first_columns(alloc, &tableau, vectors) else {
         return Placed::OutOfMemory;
     };
@@ -178,8 +177,8 @@ pub fn place(alloc: Global, vectors: &VectorList, s: &SymInt, d: i128, budget: u
     requires one_length { (k : ℕ) → k < length vectors.now → length (slice_index_or vectors.now k []) ≡ s.now.size }
     requires positive { pos 1 ≤ℤ d }
     requires spanning { IsPerfect s.now.size vectors.now }
-    ensures answer { IsPlaced (problem_of vectors.now s.now d) budget result }
-    ensures due { IsDue (problem_of vectors.now s.now d) budget result }
+    ensures answer { IsPlaceAnswer (problem_of vectors.now s.now d) budget result }
+    ensures due { IsOnlyAnswer (problem_of vectors.now s.now d) budget result }
     ensures rule { IsRuled vectors.now s.now d result }
     ensures sound { IsSound s.now.size vectors.now s.now d result }
 {

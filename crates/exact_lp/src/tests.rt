@@ -2,7 +2,7 @@
 
 ghost use Rattle.std.specs.Prelude.{◌≡◌, ◌≤◌, ◌^◌, [], ◌∷◌, ◌++◌};
 ghost use Rattle.symmetric_matrix.specs.StartVectors.{start_list};
-ghost use Rattle.symmetric_matrix.specs.Symmetric.{IsNarrow};
+ghost use Rattle.symmetric_matrix.specs.Symmetric.{FitsInt};
 
 use crate::{Exchanges, Indices, PlaceOp, Placed, Weights, place};
 use std::alloc::Global;
@@ -36,9 +36,9 @@ fn four_vectors(rt: &impl Abort, alloc: Global) -> VectorList
 
 #[tactic(auto, using(crate::proofs::Examples::three_entries))]
 fn matrix(rt: &impl Abort, alloc: Global, first: i128, second: i128, third: i128) -> SymInt
-    requires first { IsNarrow first }
-    requires second { IsNarrow second }
-    requires third { IsNarrow third }
+    requires first { FitsInt first }
+    requires second { FitsInt second }
+    requires third { FitsInt third }
     ensures { result.size ≡ 2 }
 {
     SymInt::from_lower(alloc, 2, &[first, second, third]).expect(rt, "memory")
@@ -46,7 +46,7 @@ fn matrix(rt: &impl Abort, alloc: Global, first: i128, second: i128, third: i128
 
 #[tactic(auto, using(crate::proofs::Examples::one_entry))]
 fn single(rt: &impl Abort, alloc: Global, entry: i128) -> SymInt
-    requires { IsNarrow entry }
+    requires { FitsInt entry }
     ensures { result.size ≡ 1 }
 {
     SymInt::from_lower(alloc, 1, &[entry]).expect(rt, "memory")

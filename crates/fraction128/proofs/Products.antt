@@ -4,10 +4,10 @@ use Rattle.std.proofs.Common.{arith, sym, ◌∙◌, ap, ap₂, refl, mul-pos}
 use Rattle.std.proofs.lemmas.Int.{ints, unsigned_abs-mul}
 use Prim.Native.Nat.{◌∣◌}
 use native.Mathlib.Nat.{pos_of_dvd_of_pos, div-mul_cancel}
-use Rattle.commutative_ring.specs.Gcd.{gcd_of}
+use Rattle.commutative_ring.specs.Gcd.{gcd_of, divided}
 use Rattle.commutative_ring.proofs.Gcd.{gcd_of_is}
 use Rattle.commutative_ring.proofs.Coprime.{product_lowest}
-use Rattle.commutative_ring.proofs.Lowest.{divided, nat_abs-divided}
+use Rattle.commutative_ring.proofs.Lowest.{nat_abs-divided}
 use Rattle.commutative_ring.proofs.Ring.{ring, v0, v1, v2, v3, v4, v5, ◌⊗◌}
 use Rattle.exact_forms.specs.Rational.{Rational, ratio, ◌*ℚ◌}
 use Rattle.exact_forms.specs.Lowest.{IsLowest}

@@ -5,12 +5,12 @@ use Rattle.std.proofs.lemmas.Int.{ints}
 use Prim.Native.Nat.{◌∣◌}
 use native.Mathlib.Nat.{div-mul_cancel, div-le_self, div_self}
 use Rattle.std.proofs.lemmas.Nat.Gcd.{dvd_trans}
-use Rattle.commutative_ring.specs.Gcd.{gcd_of}
+use Rattle.commutative_ring.specs.Gcd.{gcd_of, divided}
 use Rattle.commutative_ring.proofs.Gcd.{gcd_of_is}
 use Rattle.commutative_ring.proofs.Coprime.{sum_lowest}
 use Rattle.commutative_ring.proofs.Expand.{times_one}
 use Rattle.commutative_ring.proofs.Laws.{one_mul_ℤ}
-use Rattle.commutative_ring.proofs.Lowest.{divided, nat_abs-divided}
+use Rattle.commutative_ring.proofs.Lowest.{nat_abs-divided}
 use Rattle.commutative_ring.proofs.Ring.{ring, v0, v1, v2, v3, v4, v5, ◌⊗◌, ◌⊕◌}
 use Rattle.exact_forms.specs.Rational.{Rational, ratio, ◌+ℚ◌}
 use Rattle.exact_forms.specs.Lowest.{IsLowest}
@@ -19,7 +19,7 @@ use Rattle.symmetric_matrix.specs.declared.operation.IntOp.{IntOp}
 use Rattle.symmetric_matrix.specs.Owed.{answer}
 use Rattle.symmetric_matrix.specs.Operations.{is_owed, exact_result, mul_op, add_op}
 use Rattle.symmetric_matrix.proofs.Owed.{answer-append_err, answer-append_ok}
-use Rattle.fraction128.specs.Recipes.{sum_ops, add_ops}
+use Rattle.fraction128.specs.Recipes.{cross_sum_ops, add_ops}
 use Rattle.symmetric_matrix.proofs.BinaryDivisors.{gcd_of_same}
 use Rattle.fraction128.proofs.Operations.{IsMade, made, refused, passed_over, beyond}
 use Rattle.fraction128.proofs.Products.{divided_back, part_positive}
@@ -37,7 +37,7 @@ head_made {V} op ops u z h = by (is_owed op) refl h
     by true e k = absurd cc
     by false e k = (beyond (nat_abs (exact_result op)) e, k)
 
-pub sum_made : (a x b y s : ℤ) → answer is_owed (sum_ops a x b y) (a *ℤ x +ℤ b *ℤ y) ≡ Ok s → IsSum a x b y s
+pub sum_made : (a x b y s : ℤ) → answer is_owed (cross_sum_ops a x b y) (a *ℤ x +ℤ b *ℤ y) ≡ Ok s → IsSum a x b y s
 unfolding answer
 sum_made a x b y s h =
     let total : ℤ = a *ℤ x +ℤ b *ℤ y in
@@ -47,17 +47,17 @@ sum_made a x b y s h =
     let is : s ≡ total = cc (third.1) in
     record { is = is; fits = (rw is third.0) }
 
-pub left_refused : (a x b y : ℤ) (err : IntOp) → answer is_owed (mul_op a x ∷ []) (a *ℤ x) ≡ Err err → answer is_owed (sum_ops a x b y) (a *ℤ x +ℤ b *ℤ y) ≡ Err err
+pub left_refused : (a x b y : ℤ) (err : IntOp) → answer is_owed (mul_op a x ∷ []) (a *ℤ x) ≡ Err err → answer is_owed (cross_sum_ops a x b y) (a *ℤ x +ℤ b *ℤ y) ≡ Err err
 left_refused a x b y err h = refused (mul_op a x) err (mul_op b y ∷ add_op (a *ℤ x) (b *ℤ y) ∷ []) (a *ℤ x +ℤ b *ℤ y) h
 
 pub right_refused : (a x b y u : ℤ) (err : IntOp) → answer is_owed (mul_op a x ∷ []) (a *ℤ x) ≡ Ok u → answer is_owed (mul_op b y ∷ []) (b *ℤ y) ≡ Err err
-    → answer is_owed (sum_ops a x b y) (a *ℤ x +ℤ b *ℤ y) ≡ Err err
+    → answer is_owed (cross_sum_ops a x b y) (a *ℤ x +ℤ b *ℤ y) ≡ Err err
 right_refused a x b y u err h k =
     (made (mul_op a x) u (mul_op b y ∷ add_op (a *ℤ x) (b *ℤ y) ∷ []) (a *ℤ x +ℤ b *ℤ y) h).rest
     ∙ refused (mul_op b y) err (add_op (a *ℤ x) (b *ℤ y) ∷ []) (a *ℤ x +ℤ b *ℤ y) k
 
 pub both_made : (a x b y u v : ℤ) → answer is_owed (mul_op a x ∷ []) (a *ℤ x) ≡ Ok u → answer is_owed (mul_op b y ∷ []) (b *ℤ y) ≡ Ok v
-    → answer is_owed (add_op u v ∷ []) (u +ℤ v) ≡ answer is_owed (sum_ops a x b y) (a *ℤ x +ℤ b *ℤ y)
+    → answer is_owed (add_op u v ∷ []) (u +ℤ v) ≡ answer is_owed (cross_sum_ops a x b y) (a *ℤ x +ℤ b *ℤ y)
 both_made a x b y u v h k =
     let total : ℤ = a *ℤ x +ℤ b *ℤ y in
     let left = made (mul_op a x) u (mul_op b y ∷ add_op (a *ℤ x) (b *ℤ y) ∷ []) total h in
@@ -120,12 +120,12 @@ pub record IsSumOf (x y : Rational) (n e : ℤ) : Type 0 where
   pub lowest : IsLowest n e
   pub answered : answer is_owed (add_ops x y) (x +ℚ y) ≡ Ok (ratio n (nat_abs e))
 
-pub sum_done : (x y : Rational) (s e : ℤ) → answer is_owed (sum_ops x.num (pos (its x y)) y.num (pos (own x y))) (total x y) ≡ Ok s
+pub sum_done : (x y : Rational) (s e : ℤ) → answer is_owed (cross_sum_ops x.num (pos (its x y)) y.num (pos (own x y))) (total x y) ≡ Ok s
     → answer is_owed (last_op x y ∷ []) (exact_result (last_op x y)) ≡ Ok e → IsSumOf x y (divided s (gcd_of (nat_abs s) (shared x y))) e
 unfolding add_ops answer
 sum_done x y s e h k =
     let sum : IsSum x.num (pos (its x y)) y.num (pos (own x y)) s = sum_made x.num (pos (its x y)) y.num (pos (own x y)) s h in
-    let rest = answer-append_ok is_owed (sum_ops x.num (pos (its x y)) y.num (pos (own x y))) (last_op x y ∷ []) (total x y) s (x +ℚ y) h in
+    let rest = answer-append_ok is_owed (cross_sum_ops x.num (pos (its x y)) y.num (pos (own x y))) (last_op x y ∷ []) (total x y) s (x +ℚ y) h in
     let den : IsMade (last_op x y) e [] (x +ℚ y) = made (last_op x y) e [] (x +ℚ y) k in
     let some = den_parts x y in
     let small : nat_abs (divided (total x y) (last x y)) < 2 ^ 127 =
@@ -136,15 +136,15 @@ sum_done x y s e h k =
       answered = rest.0 ∙ den.rest ∙ ap Ok (sym (sum_is x y) ∙ ap₂ (λ (n : ℤ) (e : ℤ). ratio n (nat_abs e)) (sym num_is) (sym den.is));
     }
 
-pub sum_refused : (x y : Rational) (err : IntOp) → answer is_owed (sum_ops x.num (pos (its x y)) y.num (pos (own x y))) (total x y) ≡ Err err → answer is_owed (add_ops x y) (x +ℚ y) ≡ Err err
+pub sum_refused : (x y : Rational) (err : IntOp) → answer is_owed (cross_sum_ops x.num (pos (its x y)) y.num (pos (own x y))) (total x y) ≡ Err err → answer is_owed (add_ops x y) (x +ℚ y) ≡ Err err
 unfolding add_ops
-sum_refused x y err h = answer-append_err is_owed (sum_ops x.num (pos (its x y)) y.num (pos (own x y))) (last_op x y ∷ []) (total x y) (x +ℚ y) err h
+sum_refused x y err h = answer-append_err is_owed (cross_sum_ops x.num (pos (its x y)) y.num (pos (own x y))) (last_op x y ∷ []) (total x y) (x +ℚ y) err h
 
-pub last_refused : (x y : Rational) (s : ℤ) (err : IntOp) → answer is_owed (sum_ops x.num (pos (its x y)) y.num (pos (own x y))) (total x y) ≡ Ok s
+pub last_refused : (x y : Rational) (s : ℤ) (err : IntOp) → answer is_owed (cross_sum_ops x.num (pos (its x y)) y.num (pos (own x y))) (total x y) ≡ Ok s
     → answer is_owed (last_op x y ∷ []) (exact_result (last_op x y)) ≡ Err err → answer is_owed (add_ops x y) (x +ℚ y) ≡ Err err
 unfolding add_ops
 last_refused x y s err h k =
-    (answer-append_ok is_owed (sum_ops x.num (pos (its x y)) y.num (pos (own x y))) (last_op x y ∷ []) (total x y) s (x +ℚ y) h).0 ∙ refused (last_op x y) err [] (x +ℚ y) k
+    (answer-append_ok is_owed (cross_sum_ops x.num (pos (its x y)) y.num (pos (own x y))) (last_op x y ∷ []) (total x y) s (x +ℚ y) h).0 ∙ refused (last_op x y) err [] (x +ℚ y) k
 
 -- ---- one denominator
 before_fitting : {V : Type 0} (op next : IntOp) (v : V) → nat_abs (exact_result next) < 2 ^ 127 → answer is_owed (op ∷ next ∷ []) v ≡ answer is_owed (op ∷ []) v
@@ -152,7 +152,7 @@ unfolding answer
 before_fitting op next v h = ap (λ r. if is_owed op then Err op else r) (passed_over next [] v h)
 
 over_one : (a c w : ℤ) (v : Rational) → nat_abs a < 2 ^ 127 → nat_abs c < 2 ^ 127 → nat_abs w < 2 ^ 127
-    → answer is_owed (sum_ops a (pos 1) c (pos 1) ++ mul_op (pos 1) w ∷ []) v ≡ answer is_owed (add_op a c ∷ []) v
+    → answer is_owed (cross_sum_ops a (pos 1) c (pos 1) ++ mul_op (pos 1) w ∷ []) v ≡ answer is_owed (add_op a c ∷ []) v
 unfolding answer
 over_one a c w v ha hc hw =
     let a_is : a *ℤ pos 1 ≡ a = times_one a in
@@ -177,7 +177,7 @@ unfolding add_ops
 same_den x y e hx hy hd =
     let p = same_parts x y e in
     let small : y.den / last x y < 2 ^ 127 = lt_of_le_of_lt (div-le_self y.den (last x y)) hd in
-    ap₂ (λ (m : ℕ) (n : ℕ). answer is_owed (sum_ops x.num (pos n) y.num (pos m) ++ mul_op (pos m) (pos (y.den / last x y)) ∷ []) (x +ℚ y)) p.0 p.1
+    ap₂ (λ (m : ℕ) (n : ℕ). answer is_owed (cross_sum_ops x.num (pos n) y.num (pos m) ++ mul_op (pos m) (pos (y.den / last x y)) ∷ []) (x +ℚ y)) p.0 p.1
     ∙ over_one x.num y.num (pos (y.den / last x y)) (x +ℚ y) hx hy small
 
 pub same_den_sum : (x y : Rational) → x.den ≡ y.den → ratio (x.num +ℤ y.num) x.den ≡ x +ℚ y

@@ -7,8 +7,8 @@ ghost use Rattle.exact_forms.specs.Lowest.{IsLowest};
 ghost use Rattle.exact_forms.proofs.Lowest.{lowest_parts};
 ghost use Rattle.symmetric_matrix.specs.Owed.{answer};
 ghost use Rattle.symmetric_matrix.specs.Operations.{is_owed};
-ghost use Rattle.symmetric_matrix.specs.Symmetric.{IsNarrow};
-ghost use Rattle.fraction128.specs.Recipes.{mul_ops, div_ops, sum_ops, add_ops, sub_ops};
+ghost use Rattle.symmetric_matrix.specs.Symmetric.{FitsInt};
+ghost use Rattle.fraction128.specs.Recipes.{mul_ops, div_ops, cross_sum_ops, add_ops, sub_ops};
 ghost use Rattle.fraction128.specs.Order.{order_of};
 
 use crate::divisor::common_divisor;
@@ -44,7 +44,7 @@ impl Model for Fraction {
 impl Fraction {
     /// The fraction `num / den`, where `num` fits and `den` is at least 1.
     pub fn new(num: i128, den: i128) -> Fraction
-        requires fits { IsNarrow num }
+        requires fits { FitsInt num }
         requires positive { pos 1 ≤ℤ den }
         ensures { result ≡ ratio num (nat_abs den) }
     {
@@ -57,7 +57,7 @@ impl Fraction {
 
     /// The whole number `num`, which fits.
     pub fn whole(num: i128) -> Fraction
-        requires { IsNarrow num }
+        requires { FitsInt num }
         ensures { result ≡ whole num }
     {
         Fraction { num, den: 1 }
@@ -66,7 +66,7 @@ impl Fraction {
     /// The numerator in lowest terms.
     pub fn num(&self) -> i128
         ensures value { result ≡ self.now.num }
-        ensures fits { IsNarrow result }
+        ensures fits { FitsInt result }
     {
         self.num
     }
@@ -74,7 +74,7 @@ impl Fraction {
     /// The denominator in lowest terms, at least 1.
     pub fn den(&self) -> i128
         ensures value { result ≡ pos self.now.den }
-        ensures fits { IsNarrow result }
+        ensures fits { FitsInt result }
     {
         self.den
     }
@@ -184,7 +184,7 @@ impl Fraction {
 
 // a·x + b·y
 fn sum_of_products(a: i128, x: i128, b: i128, y: i128) -> Result<i128, IntOp>
-    ensures { result ≡ answer is_owed (sum_ops a x b y) (a *ℤ x +ℤ b *ℤ y) }
+    ensures { result ≡ answer is_owed (cross_sum_ops a x b y) (a *ℤ x +ℤ b *ℤ y) }
 {
     let left = multiply(a, x)?;
     let right = multiply(b, y)?;

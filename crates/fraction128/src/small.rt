@@ -1,7 +1,7 @@
 //! Products and quotients that take 64 bits where the numbers fit.
 
 ghost use Rattle.std.specs.Prelude.{◌≡◌, ◌<◌, ◌^◌, ◌↔◌, pos, ◌≤ℤ◌, ◌*ℤ◌, nat_abs, IsTrue, [], ◌∷◌};
-ghost use Rattle.commutative_ring.proofs.Lowest.{divided};
+ghost use Rattle.commutative_ring.specs.Gcd.{divided};
 ghost use Rattle.symmetric_matrix.specs.Owed.{answer};
 ghost use Rattle.symmetric_matrix.specs.Operations.{is_owed, mul_op};
 

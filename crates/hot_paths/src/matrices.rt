@@ -1,7 +1,7 @@
 //! Matrices of six rows.
 
 ghost use Rattle.std.specs.Prelude.{◌≡◌, ◌+◌, length, All, IfOk, OnOk};
-ghost use Rattle.symmetric_matrix.specs.Symmetric.{IsNarrow};
+ghost use Rattle.symmetric_matrix.specs.Symmetric.{FitsInt};
 
 use crate::draws::Draws;
 use std::alloc::{AllocError, Global};
@@ -19,9 +19,9 @@ pub fn matrix(alloc: Global, table: &[[i64; 6]; 6]) -> Result<SymInt, AllocError
 }
 
 fn push_entries(lower: &mut Vec<i128>, entries: &[i64]) -> Result<(), AllocError>
-    requires { All IsNarrow lower.old.items }
+    requires { All FitsInt lower.old.items }
     ensures count { OnOk result (length lower.new.items ≡ length lower.old.items + length entries.now) }
-    ensures narrow { OnOk result (All IsNarrow lower.new.items) }
+    ensures fits { OnOk result (All FitsInt lower.new.items) }
 {
     for entry in entries {
         lower.push(i128::from(*entry))?;

@@ -5,14 +5,14 @@ use Rattle.std.proofs.lemmas.List.Elements.{recursion_from_All}
 use Prim.Native.Nat.{◌∣◌}
 use Rattle.exact_forms.specs.Rational.{Rational, ratio}
 use Rattle.symmetric_matrix.specs.Owed.{answer}
-use Rattle.symmetric_matrix.specs.Symmetric.{Symmetric, IsNarrow, IsLower}
+use Rattle.symmetric_matrix.specs.Symmetric.{Symmetric, FitsInt, IsLower}
 use Rattle.symmetric_matrix.proofs.Owed.{answer_nothing, answer-append_err, answer-append_ok}
 use Rattle.matrix_text.specs.RationalMatrix.{RationalMatrix, IsRationalMatrix}
 use Rattle.matrix_text.specs.Clearing.{PlacedOp, is_placed_owed, placed_entries, common_multiple, least_denominator, denominator_ops, numerator_ops, numerators_over, clear_ops, cleared_of, IsLeastCommon, IsCleared}
 use Rattle.matrix_text.specs.Refusals.{RefusedAs}
 use Rattle.matrix_text.specs.declared.clearing.ClearFail.{ClearFail}
 use Rattle.matrix_text.specs.declared.clearing.ClearFail.TheVariants.{Wide, OutOfMemory}
-use Rattle.matrix_text.proofs.Clearings.{first_place, placed, least_common, numerators-over}
+use Rattle.matrix_text.proofs.Clearings.{top_left, placed_lower, least_common, numerators-over}
 
 -- the first pass gave d
 abbrev pub GivesDenominator : RationalMatrix → ℤ → Type 0
@@ -69,7 +69,7 @@ refused_second a d (Wide row column op) first h =
 refused_second a d OutOfMemory first h = tt
 
 least : (a : RationalMatrix) → IsRationalMatrix a → IsLeastCommon (least_denominator a) a.lower
-least a is = subst (λ ps. IsLeastCommon (common_multiple 1 ps) a.lower) (placed a is.triangle) (least_common first_place a.lower)
+least a is = subst (λ ps. IsLeastCommon (common_multiple 1 ps) a.lower) (placed_lower a is.triangle) (least_common top_left a.lower)
 
 pub is_cleared : (a : RationalMatrix) (d : ℤ) (s : Symmetric) (xs : List ℤ) → IsRationalMatrix a → GivesDenominator a d → GivesNumerators a d xs → s ≡ record { size = a.size; lower = xs } → IsCleared a s (nat_abs d)
 is_cleared a d s xs matrix first second is =
@@ -83,8 +83,8 @@ is_cleared a d s xs matrix first second is =
       denominator = rw size common;
     }
 
-pub lower_is : (a : RationalMatrix) (d : ℤ) (n : ℕ) (xs ys : List ℤ) → IsRationalMatrix a → GivesNumerators a d xs → n ≡ a.size → ys ≡ xs → ((k : ℕ) → k < length xs → IsNarrow (get_or xs k (pos 0))) → IsLower n ys
+pub lower_is : (a : RationalMatrix) (d : ℤ) (n : ℕ) (xs ys : List ℤ) → IsRationalMatrix a → GivesNumerators a d xs → n ≡ a.size → ys ≡ xs → ((k : ℕ) → k < length xs → FitsInt (get_or xs k (pos 0))) → IsLower n ys
 unfolding numerators_over
 lower_is a d n xs ys matrix second e f narrow =
     let len : length xs ≡ length a.lower = ap (λ (zs : List ℤ). length zs) (sym (numerators_are a d xs second)) ∙ length-map a.lower (λ (q : Rational). q.num *ℤ pos (nat_abs d / q.den)) in
-    rw (e, f) (record { entries = len ∙ matrix.triangle; narrow = narrow })
+    rw (e, f) (record { entries = len ∙ matrix.triangle; fits = narrow })

@@ -22,7 +22,7 @@ use Rattle.exact_forms.proofs.Triangles.{triangle_more, triangle_grows, entry_in
 use Rattle.symmetric_matrix.specs.declared.operation.IntOp.{IntOp}
 use Rattle.symmetric_matrix.specs.Owed.{answer}
 use Rattle.symmetric_matrix.specs.Operations.{is_owed, mul_op}
-use Rattle.symmetric_matrix.specs.Symmetric.{IsNarrow}
+use Rattle.symmetric_matrix.specs.Symmetric.{FitsInt}
 use Rattle.matrix_text.specs.RationalMatrix.{RationalMatrix, IsRationalMatrix, rational_entry}
 use Rattle.matrix_text.specs.Matrix.{none}
 use Rattle.matrix_text.specs.Clearing.{multiple, PlacedEntry, PlacedOp, is_placed_owed, placed_row, placed_entries, common_multiple, least_denominator, denominator_ops, numerator_ops, numerators_over, IsLeastCommon}
@@ -50,8 +50,8 @@ one_owed op value err e = by (is_owed op) refl e
 abbrev pub next_place : Place → Place
 next_place p = if p.column == p.row then record { row = p.row + 1; column = 1 } else record { row = p.row; column = p.column + 1 }
 
-abbrev pub first_place : Place
-first_place = record { row = 1; column = 1 }
+abbrev pub top_left : Place
+top_left = record { row = 1; column = 1 }
 
 -- the entries with their places, from this place on
 unfoldable pub placed_from : Place → List Rational → List PlacedEntry
@@ -96,9 +96,9 @@ rows-placed xs n (suc m) i e len =
     let here = rw (none_before, after) at (row-placed_all xs i (i + 1) 0 (omega arith) (omega arith) (omega (arith, len, more, grows))) in
     here ∙ ap (λ (ps : List PlacedEntry). map (λ k. record { row = i + 1; column = k + 1; value = entry_in none xs i k }) (range_with_len 0 (i + 1)) ++ ps) (rows-placed xs n m (i + 1) (omega arith) len)
 
-pub placed : (a : RationalMatrix) → length a.lower ≡ triangle a.size → placed_from first_place a.lower ≡ placed_entries a
+pub placed_lower : (a : RationalMatrix) → length a.lower ≡ triangle a.size → placed_from top_left a.lower ≡ placed_entries a
 unfolding placed_entries placed_row rational_entry triangle
-placed a len = rows-placed a.lower a.size a.size 0 (omega arith) len
+placed_lower a len = rows-placed a.lower a.size a.size 0 (omega arith) len
 
 -- ---- the common denominator
 
@@ -282,7 +282,7 @@ row_after p next k e h = rw e (next_row p k h)
 pub column_after : (p next : Place) → next ≡ next_place p → p.column ≤ p.row → next.column ≤ next.row
 column_after p next e h = rw e (next_column p h)
 
-pub product_narrow : (x y z : ℤ) → is_owed (mul_op x y) ≡ false → z ≡ x *ℤ y → IsNarrow z
+pub product_narrow : (x y z : ℤ) → is_owed (mul_op x y) ≡ false → z ≡ x *ℤ y → FitsInt z
 product_narrow x y z h e = rw e (ltb-false (2 ^ 127 - 1) (nat_abs (x *ℤ y)) h)
 
 split : (xs : List Rational) (k : ℕ) (q : Rational) → k < length xs → q ≡ get_or xs k q → drop k xs ≡ q ∷ drop (k + 1) xs
@@ -301,9 +301,9 @@ denominator_fails xs k p e q lt is h owed =
 pub denominator_done : (xs : List Rational) (k : ℕ) (p : Place) (e : ℤ) → length xs ≤ k → pos 1 ≤ℤ e → denominator_left e p (drop k xs) ≡ Ok e
 denominator_done xs k p e le h = ap (denominator_left e p) (drop_all k xs le) ∙ denominator_end e p h
 
-pub denominator_whole : (a : RationalMatrix) → IsRationalMatrix a → denominator_left (pos 1) first_place a.lower ≡ answer is_placed_owed (denominator_ops 1 (placed_entries a)) (pos (least_denominator a))
+pub denominator_whole : (a : RationalMatrix) → IsRationalMatrix a → denominator_left (pos 1) top_left a.lower ≡ answer is_placed_owed (denominator_ops 1 (placed_entries a)) (pos (least_denominator a))
 unfolding denominator_left
-denominator_whole a is = ap (λ (ps : List PlacedEntry). answer is_placed_owed (denominator_ops 1 ps) (pos (common_multiple 1 ps))) (placed a is.triangle)
+denominator_whole a is = ap (λ (ps : List PlacedEntry). answer is_placed_owed (denominator_ops 1 ps) (pos (common_multiple 1 ps))) (placed_lower a is.triangle)
 
 pub numerator_more : (xs : List Rational) (k : ℕ) (p next : Place) (d : ℕ) (q : Rational) (value : List ℤ) → k < length xs → q ≡ get_or xs k q → is_owed (mul_op q.num (pos (d / q.den))) ≡ false → next ≡ next_place p
     → numerator_left d next (drop (k + 1) xs) value ≡ numerator_left d p (drop k xs) value
@@ -318,9 +318,9 @@ numerator_fails xs k p d q value lt is owed =
 pub numerator_done : (xs : List Rational) (k : ℕ) (p : Place) (d : ℕ) (value : List ℤ) → length xs ≤ k → numerator_left d p (drop k xs) value ≡ Ok value
 numerator_done xs k p d value le = ap (λ (qs : List Rational). numerator_left d p qs value) (drop_all k xs le) ∙ numerator_end d p value
 
-pub numerator_whole : (a : RationalMatrix) (d : ℕ) (value : List ℤ) → IsRationalMatrix a → numerator_left d first_place a.lower value ≡ answer is_placed_owed (numerator_ops d (placed_entries a)) value
+pub numerator_whole : (a : RationalMatrix) (d : ℕ) (value : List ℤ) → IsRationalMatrix a → numerator_left d top_left a.lower value ≡ answer is_placed_owed (numerator_ops d (placed_entries a)) value
 unfolding numerator_left
-numerator_whole a d value is = ap (λ (ps : List PlacedEntry). answer is_placed_owed (numerator_ops d ps) value) (placed a is.triangle)
+numerator_whole a d value is = ap (λ (ps : List PlacedEntry). answer is_placed_owed (numerator_ops d ps) value) (placed_lower a is.triangle)
 
 pub over_none : (d : ℕ) (xs : List Rational) (new : List ℤ) → new ≡ [] → new ≡ numerators_over d (take 0 xs)
 unfolding numerators_over
@@ -337,7 +337,7 @@ over_all d xs k new le e = ap ok (sym (e ∙ ap (numerators_over d) (take_all k 
     ok : List ℤ → Result (List ℤ) PlacedOp
     ok zs = Ok zs
 
-pub narrow_more : (old new : List ℤ) (n : ℤ) → new ≡ old ++ n ∷ [] → IsNarrow n → ((k : ℕ) → k < length old → IsNarrow (get_or old k (pos 0))) → (k : ℕ) → k < length new → IsNarrow (get_or new k (pos 0))
+pub narrow_more : (old new : List ℤ) (n : ℤ) → new ≡ old ++ n ∷ [] → FitsInt n → ((k : ℕ) → k < length old → FitsInt (get_or old k (pos 0))) → (k : ℕ) → k < length new → FitsInt (get_or new k (pos 0))
 narrow_more old new n e h before k lt =
     let len : length new ≡ length old + 1 = ap (λ (xs : List ℤ). length xs) e ∙ length-append old (n ∷ []) in
     rw e (elim (cases_lt k (length old)) [

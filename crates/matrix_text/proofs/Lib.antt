@@ -1,12 +1,6 @@
-pub mod Runs
-pub mod LineLemmas
-pub mod NumberLemmas
-pub mod RowLemmas
 pub mod TextRows
-pub mod Cuts
 pub mod Squares
 pub mod Symmetries
-pub mod Numerals
 pub mod Entries
 pub mod Readings
 pub mod Written

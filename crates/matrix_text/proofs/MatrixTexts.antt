@@ -11,12 +11,12 @@ use Rattle.commutative_ring.specs.Gcd.{gcd_of, gcd_steps}
 use Rattle.exact_forms.specs.Rational.{Rational, ratio, whole}
 use Rattle.exact_forms.specs.Triangles.{triangle, entry_in}
 use Rattle.exact_forms.proofs.Rational.{same_parts}
-use Rattle.matrix_text.specs.Square.{lower_of, full, first_unlike}
+use Rattle.text_lines.specs.Square.{lower_of, full, first_unlike}
 use Rattle.matrix_text.specs.RationalMatrix.{RationalMatrix, IsRationalMatrix}
 use Rattle.matrix_text.specs.Matrix.{none, same_number, entries_of, mirrored, matrix_of, MatrixText}
 use Rattle.matrix_text.specs.Canonical.{matrix_text, IsShort, IsShortMatrix}
 use Rattle.matrix_text.specs.declared.fault.TextFault.{TextFault}
-use Rattle.matrix_text.proofs.Squares.{square-full, lower-full, full-mirrored, mirrored-alike}
+use Rattle.text_lines.proofs.Squares.{square-full, lower-full, full-mirrored, mirrored-alike}
 use Rattle.matrix_text.proofs.Tables.{IsShortRow, text_rows_from, table-read}
 
 pub Decides-same_number : (x y : Rational) → Decides (same_number x y) (x ≡ y)

@@ -2,8 +2,8 @@
 use Rattle.std.proofs.Common.{◌≡◌, ℕ, List, [], ◌∷◌, length, take, map, Option, None, Result, Ok, Err, refl, sym, ap, ◌∙◌, inl, inr, arith}
 use Rattle.std.proofs.lemmas.List.{length-map, length-take-le}
 use Rattle.exact_forms.specs.Rational.{Rational}
-use Rattle.matrix_text.specs.Lines.{content_lines, end_line}
-use Rattle.matrix_text.specs.Square.{lower_of, first_unlike}
+use Rattle.text_lines.specs.Lines.{content_lines, end_line}
+use Rattle.text_lines.specs.Square.{lower_of, first_unlike}
 use Rattle.matrix_text.specs.RationalMatrix.{RationalMatrix}
 use Rattle.matrix_text.specs.Matrix.{none, same_number, entries_of, mirrored, table_of, matrix_of, MatrixText, MatrixFault, HasOneReading}
 use Rattle.matrix_text.specs.Rows.{text_row, table_rows, table_entries}

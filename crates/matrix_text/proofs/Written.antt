@@ -1,85 +1,24 @@
--- A text that grows at its end, word by word and line by line.
-use Rattle.std.proofs.Common.{◌≡◌, ℕ, zero, suc, ◌+◌, ◌≤◌, List, [], ◌∷◌, ◌++◌, length, take, map, codes, refl, sym, ap, ◌∙◌, append_assoc, arith}
-use Rattle.std.specs.List.{join_with_byte, range_with_len}
-use Rattle.std.specs.Fmt.{decimal, signed_decimal}
-use Rattle.std.proofs.lemmas.Bool.{ne_eqb}
-use Rattle.std.proofs.lemmas.List.{append-nil, take_at, take_all, take-take, length-take, flat_map_more}
+-- The rows of a matrix's text, one after the other, as they are written.
+use Rattle.std.proofs.Common.{◌≡◌, ℕ, ◌+◌, List, [], ◌∷◌, ◌++◌, length, map, codes, refl, ap, ◌∙◌, append_assoc, arith}
+use Rattle.std.specs.List.{range_with_len}
+use Rattle.std.specs.Fmt.{decimal}
+use Rattle.std.proofs.lemmas.List.{append-nil, flat_map_more}
 use Rattle.std.proofs.lemmas.List.FromFn.{length-map-range_with_len, map-range_with_len_more}
 use Rattle.exact_forms.specs.Rational.{Rational}
-use Rattle.matrix_text.specs.Square.{full}
+use Rattle.text_lines.specs.Square.{full}
+use Rattle.text_lines.specs.Spelling.{fraction_word}
+use Rattle.text_lines.proofs.Written.{columns, column_end, map-map}
+pub use Rattle.text_lines.proofs.Written.{first_column, later_column}
 use Rattle.matrix_text.specs.RationalMatrix.{RationalMatrix, rational_entry}
-use Rattle.matrix_text.specs.Spelling.{Extends, separated}
-use Rattle.matrix_text.specs.Canonical.{fraction_word, row_text, rows_text, table_text, matrix_text}
+use Rattle.matrix_text.specs.Canonical.{row_text, rows_text, table_text, matrix_text}
 
-pub Extends-same : (xs ys : List ℕ) → ys ≡ xs → Extends xs ys
-Extends-same xs ys e = rw e (take_all (length xs) xs (omega arith))
+-- the words of a row of a matrix
+abbrev pub row_word : (ℕ → Rational) → ℕ → List ℕ
+row_word row j = fraction_word (row j)
 
-pub Extends-append : (xs ys zs : List ℕ) → zs ≡ xs ++ ys → Extends xs zs
-Extends-append xs ys zs e = rw e (take_at xs ys (length xs) refl)
-
-long : (xs ys : List ℕ) → Extends xs ys → length xs ≤ length ys
-long xs ys h = omega (arith, ap length h, length-take (length xs) ys)
-
-pub Extends-then : (xs ys zs : List ℕ) → Extends xs ys → Extends ys zs → Extends xs zs
-Extends-then xs ys zs h k =
-    let e : take (length xs) (take (length ys) zs) ≡ take (length xs) zs = take-take (length xs) (length ys) zs (long xs ys h) in
-    sym e ∙ ap (take (length xs)) k ∙ h
-
--- ---- a fraction
-pub whole-word : (q : Rational) (old new : List ℕ) → q.den ≡ 1 → new ≡ old ++ signed_decimal q.num → new ≡ old ++ fraction_word q
-unfolding fraction_word
-whole-word q old new e f = rw (e, f) refl
-
-pub ratio-word : (q : Rational) (old one two new : List ℕ) → (q.den ≡ 1 → ⊥) → one ≡ old ++ signed_decimal q.num → two ≡ one ++ 47 ∷ [] → new ≡ two ++ decimal q.den → new ≡ old ++ fraction_word q
-unfolding fraction_word
-ratio-word q old one two new not e f g = rw (ne_eqb q.den 1 not, g, f, e) (join old (signed_decimal q.num) (decimal q.den))
-  where
-    join : (old num den : List ℕ) → ((old ++ num) ++ 47 ∷ []) ++ den ≡ old ++ (num ++ 47 ∷ den)
-    join old num den = append_assoc (old ++ num) (47 ∷ []) den ∙ append_assoc old num (47 ∷ den)
-
--- ---- a column
-pub first_column : (column : ℕ) (word old new : List ℕ) → column ≡ 0 → new ≡ old ++ word → new ≡ old ++ separated column word
-unfolding separated
-first_column column word old new z e = rw z e
-
-pub later_column : (column : ℕ) (word old mid new : List ℕ) → (column ≡ 0 → ⊥) → mid ≡ old ++ 32 ∷ [] → new ≡ mid ++ word → new ≡ old ++ separated column word
-unfolding separated
-later_column zero word old mid new z e f = absurd (z refl)
-later_column (suc column) word old mid new z e f = rw (f, e) (append_assoc old (32 ∷ []) word)
-
-join_push : (ws : List (List ℕ)) (w : List ℕ) → join_with_byte 32 (ws ++ w ∷ []) ≡ join_with_byte 32 ws ++ separated (length ws) w
-unfolding separated
-join_push [] w = refl
-join_push (v ∷ []) w = refl
-join_push (v ∷ u ∷ ws) w = ap (λ t. v ++ 32 ∷ t) (join_push (u ∷ ws) w) ∙ sym (append_assoc v (32 ∷ join_with_byte 32 (u ∷ ws)) (separated (length (u ∷ ws)) w))
-
--- the words of the first columns
-unfoldable pub columns : (ℕ → Rational) → ℕ → List ℕ
-columns row n = join_with_byte 32 (map (λ j. fraction_word (row j)) (range_with_len 0 n))
-
-pub column_none : (row : ℕ → Rational) (old : List ℕ) → old ≡ old ++ columns row 0
-unfolding columns
-column_none row old = sym (append-nil old)
-
-pub column_more : (row : ℕ → Rational) (j : ℕ) (q : Rational) (old mid new : List ℕ) → q ≡ row j → mid ≡ old ++ columns row j → new ≡ mid ++ separated j (fraction_word q) → new ≡ old ++ columns row (j + 1)
-unfolding columns
-column_more row j q old mid new is e f =
-    let words = λ (j : ℕ). fraction_word (row j) in
-    let len : length (map (λ j. fraction_word (row j)) (range_with_len 0 j)) ≡ j = length-map-range_with_len (λ j. fraction_word (row j)) 0 j in
-    let joined : join_with_byte 32 (map (λ j. fraction_word (row j)) (range_with_len 0 (j + 1))) ≡ join_with_byte 32 (map (λ j. fraction_word (row j)) (range_with_len 0 j)) ++ separated j (fraction_word (row j)) =
-    ap (join_with_byte 32) (map-range_with_len_more (λ j. fraction_word (row j)) 0 j j (omega arith))
-    ∙ join_push (map (λ j. fraction_word (row j)) (range_with_len 0 j)) (fraction_word (row j))
-    ∙ ap (λ (k : ℕ). join_with_byte 32 (map (λ j. fraction_word (row j)) (range_with_len 0 j)) ++ separated k (fraction_word (row j))) len in
-    rw (f, e, joined, is) (append_assoc old (join_with_byte 32 (map (λ j. fraction_word (row j)) (range_with_len 0 j))) (separated j (fraction_word (row j))))
-
-map-map : {A B C : Type 0} (f : A → B) (g : B → C) (xs : List A) → map g (map f xs) ≡ map (λ x. g (f x)) xs
-map-map f g [] = refl
-map-map f g (x ∷ xs) = ap (λ ys. g (f x) ∷ ys) (map-map f g xs)
-
-pub column_end : (row : ℕ → Rational) (n : ℕ) (old mid new : List ℕ) → mid ≡ old ++ columns row n → new ≡ mid ++ 10 ∷ [] → new ≡ old ++ row_text (map row (range_with_len 0 n))
-unfolding columns row_text
-column_end row n old mid new e f =
-    rw (f, e, map-map row fraction_word (range_with_len 0 n)) (append_assoc old (join_with_byte 32 (map (λ j. fraction_word (row j)) (range_with_len 0 n))) (10 ∷ []))
+pub row_end : (row : ℕ → Rational) (n : ℕ) (old mid new : List ℕ) → mid ≡ old ++ columns (row_word row) n → new ≡ mid ++ 10 ∷ [] → new ≡ old ++ row_text (map row (range_with_len 0 n))
+unfolding row_text
+row_end row n old mid new e f = rw (map-map row fraction_word (range_with_len 0 n)) (column_end (row_word row) n old mid new e f)
 
 -- ---- the rows
 abbrev pub row_of_matrix : RationalMatrix → ℕ → List Rational

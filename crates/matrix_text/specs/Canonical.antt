@@ -1,6 +1,5 @@
 -- The one written form of a matrix.
 --
---     fraction_word q     the numerator, with `/` and the denominator where that is not 1, in lowest terms
 --     row_text row        the words of a row, with one space between them, and a line feed
 --     header_line n       the words `cpmatrix`, `1` and n, with one space between them
 --     rows_text rows      the rows, one after the other
@@ -8,16 +7,14 @@
 --     matrix_text a       the full symmetric matrix
 --     IsShort q           the magnitude of the numerator and the denominator are at most 9223372036854775807
 --     IsShortMatrix a     1 to 6 rows, each entry short
-use Rattle.std.specs.Prelude.{ℕ, ◌≤◌, List, [], ◌∷◌, ◌++◌, length, map, nat_abs, codes, All, ◌==◌, if◌then◌else◌}
+use Rattle.std.specs.Prelude.{ℕ, ◌≤◌, List, [], ◌∷◌, ◌++◌, length, map, nat_abs, codes, All}
 use Rattle.std.specs.List.{flat_map, join_with_byte}
-use Rattle.std.specs.Fmt.{decimal, signed_decimal}
+use Rattle.std.specs.Fmt.{decimal}
 use Rattle.exact_forms.specs.Rational.{Rational}
-use Rattle.matrix_text.specs.Square.{full}
+use Rattle.text_lines.specs.Square.{full}
+use Rattle.text_lines.specs.Spelling.{fraction_word}
 use Rattle.matrix_text.specs.RationalMatrix.{RationalMatrix}
 use Rattle.matrix_text.specs.Matrix.{none}
-
-unfoldable pub fraction_word : Rational → List ℕ
-fraction_word q = if q.den == 1 then signed_decimal q.num else signed_decimal q.num ++ 47 ∷ decimal q.den
 
 unfoldable pub row_text : List Rational → List ℕ
 row_text row = join_with_byte 32 (map fraction_word row) ++ 10 ∷ []

@@ -1,11 +1,7 @@
-pub mod Lines
-pub mod Content
-pub mod Numbers
-pub mod Square
+pub mod Spelling
 pub mod RationalMatrix
 pub mod Matrix
 pub mod Rows
-pub mod Spelling
 pub mod Canonical
 pub mod Clearing
 pub mod Refusals

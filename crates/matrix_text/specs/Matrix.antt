@@ -1,20 +1,14 @@
 -- The text of a matrix: what it stands for, or its first fault.
 --
---     result >>= f             f of the value, or the error
---     is_large n               n is over 9223372036854775807
---     ratio_of top bottom      the fraction of a signed and a whole word, or BadNumber, NumberTooLarge, ZeroDenominator
---     is_slash b               the byte is `/`
---     parted word at           the fraction of the word's two parts beside this position, or of the word over 1
---     entry_of word            the fraction that a word writes, or its fault
---     row_of n words           the fractions of n words, or the fault of the first that has one; ShortRow, LongRow
+--     number_kind fault        the kind of a number's fault
+--     entry_of_word word       the fraction that a word writes, or its fault
+--     row_of_words n words     the fractions of n words, or the fault of the first that has one; ShortRow, LongRow
 --     size_of_word word        the number of a whole word, from 1 to 6; BadDimension
 --     header_of words          the number n of the words `cpmatrix`, `1`, n; NoHeader, BadVersion, BadDimension
---     is_ascii bytes           each byte is below 128
---     at_line k read           what was read, its fault at line k
---     in_line read line        what is read of a line's words; NotAscii before every other fault of the line
+--     fault_at kind line       the fault of this kind at this line
+--     read_line read line      what is read of a line's words; NotAscii before every other fault of the line
 --     TextRow                  a row's entries, and the line where it stands
---     rows_of n end k lines    k rows of n entries and no further line; MissingRow at the end line, ExtraLine
---     Gives view result read   the result, its value seen by view, is what was read
+--     rows_of_lines n end k lines  k rows of n entries and no further line; MissingRow at the end line, ExtraLine
 --     table_of_lines end lines the rows of the size that the first line names; NoHeader at the end line
 --     table_of text            the header and the rows
 --     none                     0
@@ -31,58 +25,37 @@
 --     HasOneReading bytes      exactly one of the two holds, for exactly one value
 --
 -- Lines count from 1, rows and columns from 0.
-use Rattle.std.specs.Prelude.{◌≡◌, ℕ, zero, suc, ◌+◌, Bool, not, ◌&&◌, ◌||◌, ◌⊎◌, List, [], ◌∷◌, length, take, drop, map, Option, Some, None, Result, Ok, Err, position, pos, nat_lt, ◌==◌, if◌then◌else◌, codes, slice_index_or}
-use Rattle.std.specs.List.{list_all}
+use Rattle.std.specs.Prelude.{◌≡◌, ℕ, zero, suc, not, ◌&&◌, ◌⊎◌, List, [], ◌∷◌, length, map, Bool, Option, Some, None, Result, Ok, Err, pos, nat_lt, if◌then◌else◌, codes, slice_index_or}
 use Rattle.std.specs.Str.{bytes_eq}
 use Rattle.std.specs.Ordering.{int_eq}
-use Rattle.exact_forms.specs.Rational.{Rational, ratio, whole}
-use Rattle.matrix_text.specs.Lines.{words, content_lines, end_line, TextLine, Content}
-use Rattle.matrix_text.specs.Numbers.{is_whole, whole_value, is_signed, magnitude, signed_value}
-use Rattle.matrix_text.specs.Square.{lower_of, first_unlike}
+use Rattle.exact_forms.specs.Rational.{Rational, whole}
+use Rattle.text_lines.specs.Lines.{content_lines, end_line, TextLine, Content}
+use Rattle.text_lines.specs.Numbers.{is_whole, whole_value}
+use Rattle.text_lines.specs.Readings.{◌>>=◌, numbers_of, in_line}
+use Rattle.text_lines.specs.Fractions.{fraction_up_to, kinded}
+use Rattle.text_lines.specs.Square.{lower_of, first_unlike}
+use Rattle.text_lines.specs.declared.fractions.NumberFault.{NumberFault}
+use Rattle.text_lines.specs.declared.fractions.NumberFault.TheVariants.{NotNumber, TooLarge, ZeroDenominator as OverZero}
 use Rattle.matrix_text.specs.RationalMatrix.{RationalMatrix}
 use Rattle.matrix_text.specs.declared.fault.TextKind.{TextKind}
 use Rattle.matrix_text.specs.declared.fault.TextKind.TheVariants.{NotAscii, NoHeader, BadVersion, BadDimension, BadNumber, NumberTooLarge, ZeroDenominator, ShortRow, LongRow, MissingRow, ExtraLine, NotSymmetric}
 use Rattle.matrix_text.specs.declared.fault.TextFault.{TextFault}
 
-infixl 10 ◌>>=◌
-abbrev pub ◌>>=◌ : {A B E : Type 0} → Result A E → (A → Result B E) → Result B E
-(Ok x) >>= f = f x
-(Err e) >>= f = Err e
-
 -- ---- a word
 
-abbrev pub is_large : ℕ → Bool
-is_large n = nat_lt 9223372036854775807 n
+abbrev pub number_kind : NumberFault → TextKind
+number_kind NotNumber = BadNumber
+number_kind TooLarge = NumberTooLarge
+number_kind OverZero = ZeroDenominator
 
-unfoldable pub ratio_of : List ℕ → List ℕ → Result Rational TextKind
-ratio_of top bottom =
-    if not (is_signed top && is_whole bottom) then Err BadNumber
-    else (if is_large (magnitude top) || is_large (whole_value bottom) then Err NumberTooLarge
-    else (if whole_value bottom == 0 then Err ZeroDenominator
-    else Ok (ratio (signed_value top) (whole_value bottom))))
-
-abbrev pub is_slash : ℕ → Bool
-is_slash b = b == 47
-
-abbrev pub parted : List ℕ → Option ℕ → Result Rational TextKind
-parted word None = ratio_of word (codes "1")
-parted word (Some at) = ratio_of (take at word) (drop (at + 1) word)
-
--- a fraction word: a signed word, or a signed word, `/` and a whole word
-unfoldable pub entry_of : List ℕ → Result Rational TextKind
-entry_of word = parted word (position is_slash word)
+unfoldable pub entry_of_word : List ℕ → Result Rational TextKind
+entry_of_word word = kinded number_kind (fraction_up_to 9223372036854775807 word)
 
 -- ---- a line
 
 -- the first n words, and no more
-unfoldable pub row_of : ℕ → List (List ℕ) → Result (List Rational) TextKind
-row_of zero [] = Ok []
-row_of zero (word ∷ more) = Err LongRow
-row_of (suc n) [] = Err ShortRow
-row_of (suc n) (word ∷ more) = do
-  entry ← entry_of word
-  entries ← row_of n more
-  Ok (entry ∷ entries)
+abbrev pub row_of_words : ℕ → List (List ℕ) → Result (List Rational) TextKind
+row_of_words n words = numbers_of entry_of_word ShortRow LongRow n words
 
 unfoldable pub size_of_word : List ℕ → Result ℕ TextKind
 size_of_word word = if is_whole word && nat_lt 0 (whole_value word) && nat_lt (whole_value word) 7 then Ok (whole_value word) else Err BadDimension
@@ -94,16 +67,11 @@ header_of (name ∷ version ∷ size ∷ []) =
     else size_of_word size)
 header_of others = Err NoHeader
 
-abbrev pub is_ascii : List ℕ → Bool
-is_ascii bytes = list_all (λ b. nat_lt b 128) bytes
+abbrev pub fault_at : TextKind → ℕ → TextFault
+fault_at kind line = record { kind = kind; line = line }
 
-abbrev pub at_line : {A : Type 0} → ℕ → Result A TextKind → Result A TextFault
-at_line line (Ok x) = Ok x
-at_line line (Err kind) = Err (record { kind = kind; line = line })
-
--- what the words of a line stand for; a byte that is not ASCII comes before every other fault
-unfoldable pub in_line : {A : Type 0} → (List (List ℕ) → Result A TextKind) → TextLine → Result A TextFault
-in_line read line = at_line line.number (if is_ascii line.bytes then read (words line.bytes) else Err NotAscii)
+abbrev pub read_line : {A : Type 0} → (List (List ℕ) → Result A TextKind) → TextLine → Result A TextFault
+read_line read line = in_line fault_at NotAscii read line
 
 -- ---- the text
 
@@ -112,24 +80,20 @@ pub record TextRow : Type 0 where
   pub entries : List Rational
 
 -- k rows of this size, and no further line
-unfoldable pub rows_of : ℕ → ℕ → ℕ → List TextLine → Result (List TextRow) TextFault
-rows_of size end zero [] = Ok []
-rows_of size end zero (line ∷ more) = in_line (λ others. Err ExtraLine) line
-rows_of size end (suc k) [] = Err (record { kind = MissingRow; line = end })
-rows_of size end (suc k) (line ∷ more) = do
-  entries ← in_line (row_of size) line
-  rows ← rows_of size end k more
+unfoldable pub rows_of_lines : ℕ → ℕ → ℕ → List TextLine → Result (List TextRow) TextFault
+rows_of_lines size end zero [] = Ok []
+rows_of_lines size end zero (line ∷ more) = read_line (λ others. Err ExtraLine) line
+rows_of_lines size end (suc k) [] = Err (record { kind = MissingRow; line = end })
+rows_of_lines size end (suc k) (line ∷ more) = do
+  entries ← read_line (row_of_words size) line
+  rows ← rows_of_lines size end k more
   Ok (record { line = line.number; entries = entries } ∷ rows)
-
-abbrev pub Gives : {X Y E : Type 0} → (X → Y) → Result X E → Result Y E → Type 0
-Gives view (Ok x) read = read ≡ Ok (view x)
-Gives view (Err e) read = read ≡ Err e
 
 abbrev pub table_of_lines : ℕ → List TextLine → Result (List TextRow) TextFault
 table_of_lines end [] = Err (record { kind = NoHeader; line = end })
 table_of_lines end (line ∷ more) = do
-  size ← in_line header_of line
-  rows_of size end size more
+  size ← read_line header_of line
+  rows_of_lines size end size more
 
 unfoldable pub table_of : Content → Result (List TextRow) TextFault
 table_of text = table_of_lines text.end text.lines

@@ -4,7 +4,7 @@ ghost use Rattle.std.specs.Prelude.{◌≡◌, ◌≤◌, ◌<◌, ◌≤ℤ◌,
 ghost use Rattle.commutative_ring.specs.Gcd.{gcd_of};
 ghost use Rattle.symmetric_matrix.specs.Owed.{answer};
 ghost use Rattle.symmetric_matrix.specs.Operations.{is_owed, mul_op};
-ghost use Rattle.symmetric_matrix.specs.Symmetric.{IsNarrow};
+ghost use Rattle.symmetric_matrix.specs.Symmetric.{FitsInt};
 ghost use Rattle.matrix_text.specs.Clearing.{is_placed_owed, placed_entries, least_denominator, denominator_ops, numerator_ops, numerators_over, clear_ops, cleared_of, IsCleared};
 ghost use Rattle.matrix_text.specs.Refusals.{RefusedAs};
 ghost use Rattle.matrix_text.specs.declared.clearing.ClearFail.TheVariants.{Wide, OutOfMemory};
@@ -95,7 +95,7 @@ fn multiply_at(place: Place, left: i128, right: i128) -> Result<i128, ClearFail>
 /// The least common multiple of a number and the denominator of the entry at a place.
 fn multiple_at(place: Place, number: i128, entry: Fraction) -> Result<i128, ClearFail>
     requires positive { pos 1 ≤ℤ number }
-    requires narrow { IsNarrow number }
+    requires fits { FitsInt number }
     ensures ok { IfOk result (λ product. let factor = pos (entry.den / gcd_of (nat_abs number) entry.den) in (is_owed (mul_op number factor) ≡ false) × (product ≡ number *ℤ factor)) }
     ensures wide { IfErr result (λ fail. let op = mul_op number (pos (entry.den / gcd_of (nat_abs number) entry.den)) in (is_owed op ≡ true) × (fail ≡ Wide place.row place.column op)) }
 {
@@ -132,7 +132,7 @@ fn common_denominator(a: &RatMatrix) -> Result<i128, ClearFail>
 fn numerators(alloc: Global, a: &RatMatrix, denominator: i128) -> Result<Vec<i128>, ClearFail>
     requires { pos 1 ≤ℤ denominator }
     ensures ok { IfOk result (λ lower. answer is_placed_owed (numerator_ops (nat_abs denominator) (placed_entries a.now)) (numerators_over (nat_abs denominator) a.now.lower) ≡ Ok lower.items) }
-    ensures narrow { IfOk result (λ lower. (k : ℕ) → k < length lower.items → IsNarrow (slice_index_or lower.items k (pos 0))) }
+    ensures fits { IfOk result (λ lower. (k : ℕ) → k < length lower.items → FitsInt (slice_index_or lower.items k (pos 0))) }
     ensures wide { IfErr result (λ fail. RefusedAs (answer is_placed_owed (numerator_ops (nat_abs denominator) (placed_entries a.now)) (numerators_over (nat_abs denominator) a.now.lower)) fail) }
 {
     let mut place = FIRST;

@@ -1,12 +1,12 @@
 //! The header of a text.
 
 ghost use Rattle.std.specs.Prelude.{◌≡◌, ◌≤◌, IfOk};
-ghost use Rattle.matrix_text.specs.Lines.{words};
+ghost use Rattle.text_lines.specs.Lines.{words};
 ghost use Rattle.matrix_text.specs.Matrix.{header_of, size_of_word};
 
 use crate::fault::TextKind;
-use crate::numbers::whole_number;
-use crate::words::Words;
+use text_lines::numbers::whole_number;
+use text_lines::words::Words;
 
 #[tactic(auto, unfolding(crate::specs::Matrix::size_of_word))]
 fn size_in(word: &[u8]) -> Result<u8, TextKind>

@@ -4,7 +4,7 @@ ghost use Rattle.std.specs.Prelude.{◌≡◌, ℕ, ◌<◌, ◌≤◌, length, 
 ghost use Rattle.matrix_text.specs.Matrix.{MatrixText, MatrixFault, mirrored, none, same_number, line_of_row};
 ghost use Rattle.matrix_text.specs.Canonical.{IsShortMatrix};
 ghost use Rattle.matrix_text.specs.Rows.{table_rows, table_entries};
-ghost use Rattle.matrix_text.specs.Square.{first_unlike};
+ghost use Rattle.text_lines.specs.Square.{first_unlike};
 ghost use Rattle.matrix_text.specs.declared.fault.TextKind.{TextKind};
 ghost use Rattle.matrix_text.specs.declared.fault.TextFault.{TextFault};
 ghost use Rattle.matrix_text.specs.declared.fault.TextFail.TheVariants.{Fault};

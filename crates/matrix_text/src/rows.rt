@@ -1,32 +1,26 @@
 //! The lines of a text: its header and its rows.
 
 ghost use Rattle.std.specs.Prelude.{◌≡◌, ◌+◌, ◌<◌, ◌≤◌, ◌^◌, length, take, IfOk, List, Err};
-ghost use Rattle.matrix_text.specs.Lines.{words, content_lines, end_line};
-ghost use Rattle.matrix_text.specs.Content.{line_of};
-ghost use Rattle.matrix_text.specs.Matrix.{Gives, row_of, rows_of, header_of, in_line, table_of, is_ascii, TextRow};
+ghost use Rattle.text_lines.specs.Lines.{words, content_lines, end_line};
+ghost use Rattle.text_lines.specs.Content.{line_of};
+ghost use Rattle.text_lines.specs.Readings.{Agrees};
+ghost use Rattle.matrix_text.specs.Matrix.{row_of_words, rows_of_lines, header_of, read_line, table_of, TextRow};
 ghost use Rattle.matrix_text.specs.Rows.{text_rows, table_rows};
 ghost use Rattle.matrix_text.specs.declared.fault.TextKind.TheVariants.{ExtraLine};
 
-use crate::content::{ContentLines, TextLine};
 use crate::entry::entry_in;
 use crate::fault::{TextFault, TextKind, fault};
 use crate::header::header_size;
 use crate::table::{MOST, Row, Table};
-use crate::words::Words;
 use fraction128::Fraction;
-
-/// Whether each byte of the line is below 128.
-fn is_ascii_line(line: &[u8]) -> bool
-    ensures { result ≡ is_ascii line.now }
-{
-    line.iter().all(|b| *b < 128)
-}
+use text_lines::content::{ContentLines, TextLine, is_ascii_line};
+use text_lines::words::Words;
 
 /// The entries of a row.
-#[tactic(auto, using(crate::proofs::RowLemmas::row_steps))]
+#[tactic(auto, using(text_lines::proofs::Fronts::number_steps))]
 fn row_in(line: &[u8], size: usize) -> Result<[Fraction; MOST], TextKind>
     requires { size ≤ MOST }
-    ensures { Gives (λ row. take size row) result (row_of size (words line.now)) }
+    ensures { Agrees (λ row. take size row) result (row_of_words size (words line.now)) }
 {
     let mut words = Words::of(line);
     let mut row = [Fraction::whole(0); MOST];
@@ -43,10 +37,10 @@ fn row_in(line: &[u8], size: usize) -> Result<[Fraction; MOST], TextKind>
 }
 
 /// The row that a line writes.
-#[tactic(auto, unfolding(crate::specs::Matrix::in_line))]
+#[tactic(auto, unfolding(text_lines::specs::Readings::in_line))]
 fn row_at(line: TextLine, size: usize) -> Result<Row, TextFault>
     requires { size ≤ MOST }
-    ensures entries { Gives (λ row. take size row.entries) result (in_line (row_of size) (line_of line.entry)) }
+    ensures entries { Agrees (λ row. take size row.entries) result (read_line (row_of_words size) (line_of line.entry)) }
     ensures line { IfOk result (λ row. row.line ≡ line.entry.number) }
 {
     if !is_ascii_line(line.bytes) {
@@ -62,9 +56,9 @@ fn row_at(line: TextLine, size: usize) -> Result<Row, TextFault>
 }
 
 /// The fault of a line that follows the last row.
-#[tactic(auto, unfolding(crate::specs::Matrix::in_line))]
+#[tactic(auto, unfolding(text_lines::specs::Readings::in_line))]
 fn extra_line(line: TextLine) -> TextFault
-    ensures { in_line {A = List TextRow} (λ words. Err ExtraLine) (line_of line.entry) ≡ Err result }
+    ensures { read_line {A = List TextRow} (λ words. Err ExtraLine) (line_of line.entry) ≡ Err result }
 {
     if is_ascii_line(line.bytes) {
         fault(TextKind::ExtraLine, line.number)
@@ -77,7 +71,7 @@ fn extra_line(line: TextLine) -> TextFault
 #[tactic(auto, using(crate::proofs::TextRows::rows_steps))]
 fn rows_in(lines: ContentLines, size: usize) -> Result<[Row; MOST], TextFault>
     requires { size ≤ MOST }
-    ensures { Gives (λ rows. text_rows size rows) result (rows_of size lines.entry.end size lines.entry.lines) }
+    ensures { Agrees (λ rows. text_rows size rows) result (rows_of_lines size lines.entry.end size lines.entry.lines) }
 {
     let mut lines = lines;
     let empty = Row {
@@ -98,9 +92,9 @@ fn rows_in(lines: ContentLines, size: usize) -> Result<[Row; MOST], TextFault>
 }
 
 /// The size that the header's line names.
-#[tactic(auto, unfolding(crate::specs::Matrix::in_line))]
+#[tactic(auto, unfolding(text_lines::specs::Readings::in_line))]
 fn size_at(line: TextLine) -> Result<u8, TextFault>
-    ensures value { Gives (λ size. size) result (in_line header_of (line_of line.entry)) }
+    ensures value { Agrees (λ size. size) result (read_line header_of (line_of line.entry)) }
     ensures some { IfOk result (λ size. 1 ≤ size) }
     ensures few { IfOk result (λ size. size ≤ 6) }
 {
@@ -117,7 +111,7 @@ fn size_at(line: TextLine) -> Result<u8, TextFault>
 #[tactic(auto, unfolding(crate::specs::Matrix::table_of))]
 pub fn read_table(text: &[u8]) -> Result<Table, TextFault>
     requires { length text.now + 1 < 2 ^ 32 }
-    ensures { Gives (λ table. table_rows table) result (table_of (record { lines = content_lines text.now; end = end_line text.now })) }
+    ensures { Agrees (λ table. table_rows table) result (table_of (record { lines = content_lines text.now; end = end_line text.now })) }
 {
     let mut lines = ContentLines::of(text);
     let size = match lines.next() {

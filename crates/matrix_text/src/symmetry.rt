@@ -1,7 +1,7 @@
 //! Whether a table is symmetric, and its lower triangle.
 
 ghost use Rattle.std.specs.Prelude.{◌≡◌, ◌+◌, ◌<◌, ◌++◌, [], OnOk, IfOk, IfSome, take, slice_index_or};
-ghost use Rattle.matrix_text.specs.Square.{entry_at, lower_of, mirrors, first_unlike};
+ghost use Rattle.text_lines.specs.Square.{entry_at, lower_of, mirrors, first_unlike};
 ghost use Rattle.matrix_text.specs.Matrix.{none, same_number};
 ghost use Rattle.matrix_text.specs.Rows.{table_entries};
 
@@ -20,7 +20,7 @@ fn entry(table: &Table, row: usize, column: usize) -> Fraction
 }
 
 /// Whether the row is as the column of its number, left of the diagonal.
-#[tactic(auto, using(crate::proofs::Symmetries::left_more, crate::proofs::Symmetries::left_fails, crate::proofs::Symmetries::left_none, crate::proofs::Symmetries::likes))]
+#[tactic(auto, using(text_lines::proofs::Mirrors::left_more, text_lines::proofs::Mirrors::left_fails, text_lines::proofs::Mirrors::left_none, crate::proofs::Symmetries::likes))]
 fn is_mirrored(table: &Table, row: usize) -> bool
     requires { row < table.now.size }
     ensures { result ≡ mirrors same_number none (table_entries table.now) row }
@@ -34,7 +34,7 @@ fn is_mirrored(table: &Table, row: usize) -> bool
 }
 
 /// The first row that is not as the column of its number, left of the diagonal.
-#[tactic(auto, using(crate::proofs::Symmetries::find_more, crate::proofs::Symmetries::find_here, crate::proofs::Symmetries::find_end, crate::proofs::Symmetries::unlikes))]
+#[tactic(auto, using(text_lines::proofs::Mirrors::find_more, text_lines::proofs::Mirrors::find_here, text_lines::proofs::Mirrors::find_end, crate::proofs::Symmetries::unlikes))]
 pub fn first_unlike_row(table: &Table) -> Option<usize>
     ensures first { result ≡ first_unlike same_number none (table_entries table.now) }
     ensures inside { IfSome result (λ row. row < table.now.size) }

@@ -2,41 +2,18 @@
 
 ghost use Rattle.std.specs.Prelude.{◌≡◌, ◌<◌, ◌++◌, map, OnOk, OnErr};
 ghost use Rattle.std.specs.List.{range_with_len};
-ghost use Rattle.std.specs.Fmt.{signed_decimal};
 ghost use Rattle.matrix_text.specs.RationalMatrix.{rational_entry};
-ghost use Rattle.matrix_text.specs.Canonical.{fraction_word, row_text, matrix_text, IsShortMatrix};
-ghost use Rattle.matrix_text.specs.Spelling.{separated, Extends};
+ghost use Rattle.matrix_text.specs.Canonical.{row_text, matrix_text, IsShortMatrix};
+ghost use Rattle.text_lines.specs.Spelling.{spaced_word, Extends, fraction_word};
 
 use crate::matrix::RatMatrix;
 use fraction128::Fraction;
-use itoa::Buffer;
 use std::alloc::AllocError;
-
-/// Appends a number as a plain decimal.
-fn push_number(into: &mut Vec<u8>, number: i128) -> Result<(), AllocError>
-    ensures ok { OnOk result (into.new.items ≡ into.old.items ++ signed_decimal number) }
-    ensures kept { Extends into.old.items into.new.items }
-{
-    let mut digits = Buffer::new();
-    into.extend_from_slice(digits.format(number).as_bytes())
-}
-
-/// Appends a fraction: its numerator, with `/` and the denominator where that is not 1.
-fn push_fraction(into: &mut Vec<u8>, fraction: Fraction) -> Result<(), AllocError>
-    ensures ok { OnOk result (into.new.items ≡ into.old.items ++ fraction_word fraction) }
-    ensures kept { Extends into.old.items into.new.items }
-{
-    push_number(into, fraction.num())?;
-    if fraction.den() == 1 {
-        return Ok(());
-    }
-    into.push(b'/')?;
-    push_number(into, fraction.den())
-}
+use text_lines::writing::{push_fraction, push_number};
 
 /// Appends the fraction of a column, with a space before it in every column but the first.
 fn push_column(into: &mut Vec<u8>, column: u8, fraction: Fraction) -> Result<(), AllocError>
-    ensures ok { OnOk result (into.new.items ≡ into.old.items ++ separated column (fraction_word fraction)) }
+    ensures ok { OnOk result (into.new.items ≡ into.old.items ++ spaced_word column (fraction_word fraction)) }
     ensures kept { Extends into.old.items into.new.items }
 {
     if column == 0 {

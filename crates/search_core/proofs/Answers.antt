@@ -11,8 +11,10 @@ use Rattle.unimodular_cone.specs.Cones.{Matrix, gram, value, cone_at, unit_vecto
 use Rattle.unimodular_cone.specs.declared.Mode.{Mode}
 use Rattle.unimodular_cone.specs.declared.Mode.TheVariants.{Sign, Least}
 use Rattle.unimodular_cone.specs.Tree.{CanSplit, IsLowValue, IsLow, IsFinalBound, IsOpen, IsFirstOverBelow}
-use Rattle.unimodular_cone.specs.Answer.{coordinate, Attains, IsIncreasing, SearchAnswer, Found, Copositive, Depth, IsSearchAnswer, IsClosedAnswer, IsClear, IsVector, IsOpenAnswer, IsNarrow}
-use Rattle.search_core.specs.Fair.{Fate, Judged, bound_under, IsClosedUnder, IsSplit, HasPath, IsFair, code, code_of, start_word, least_value, IsLowFate}
+use Rattle.unimodular_cone.specs.Answer.{coordinate, Attains, IsIncreasing, SearchAnswer, Found, Copositive, Depth, IsSearchAnswer, IsClosedAnswer, IsClear, IsListOf, IsOpenAnswer, BoundFits}
+use Rattle.search_core.specs.Fair.{Fate, Judged, bound_under, IsSplit, HasPath, IsFair, code, code_of, start_word, least_value, IsLowFate}
+use Rattle.search_core.proofs.PathFates.{IsClosedUnder}
+use Rattle.search_core.proofs.ShownFates.{judged_fate}
 use Rattle.unimodular_cone.proofs.Covers.{value_same, closed_attains, IsNonzeroBelow}
 use Rattle.unimodular_cone.proofs.Bounded.{closed_or_not}
 use Rattle.unimodular_cone.proofs.Generators.{proper}
@@ -23,7 +25,7 @@ use Rattle.search_core.proofs.Settle.{IsLimitFate, split_or_limit, split_can}
 use Rattle.search_core.proofs.Fairness.{judged_in_tree, none_low, low_is_judged, limit_is_open, settles_low, settles_open, settles_none_open}
 use Rattle.search_core.proofs.Bound.{final_bound_Least}
 
-pub final_bound : (m : Mode) (n : ℕ) (q : Matrix) (d : ℕ) (judged : List Judged) (final : ℕ) → IsSymmetric n q → IsFair m n q d judged final → d ≤ 200 → 256 ≤ final → 0 < n → IsNarrow m n q
+pub final_bound : (m : Mode) (n : ℕ) (q : Matrix) (d : ℕ) (judged : List Judged) (final : ℕ) → IsSymmetric n q → IsFair m n q d judged final → d ≤ 200 → 256 ≤ final → 0 < n → BoundFits m n q
     → IsFinalBound m n q d (bound_under m final)
 final_bound Sign n q d judged final s fair small large some narrow = refl
 final_bound Least n q d judged final s fair small large some narrow = final_bound_Least n q d judged final s fair small large some narrow
@@ -60,18 +62,18 @@ module _ (m : Mode) (n : ℕ) (q : Matrix) (d : ℕ) (judged : List Judged) (fin
           let k = low_is_judged m n q d judged final s fair j.path (judged_in_tree m n q d judged final s fair j c) low (omega arith) in
           (k.0, k.1, k.3, ap length k.2 ∙ k.4)
 
-  pub answers_low : IsNarrow m n q → Fits n q unit_vectors → (j : Judged) → Contains judged j → (which : ℕ) → j.fate ≡ Fate.Low (suc which) → length j.path ≡ final
+  pub answers_low : BoundFits m n q → Fits n q unit_vectors → (j : Judged) → Contains judged j → (which : ℕ) → j.fate ≡ Fate.Low (suc which) → length j.path ≡ final
       → ((k : Judged) → Contains judged k → IsLowFate k.fate → length k.path ≡ final → IsNoLater j.path k.path)
-      → (x : List ℕ) (z : ℤ) → IsVector n x (cone_at n q j.path which) → value n q (cone_at n q j.path) which ≡ z
+      → (x : List ℕ) (z : ℤ) → IsListOf n x (cone_at n q j.path which) → value n q (cone_at n q j.path) which ≡ z
       → IsSearchAnswer m n q d (SearchAnswer.Low x z j.path)
   answers_low narrow root_fits j c which e depth first x z vector val =
       let r = settles_low m n q d judged final s fair j c which e depth first in
-      record { narrow = narrow; root_fits = root_fits; first_low = r.0; which = which; is_which = r.1; vector = vector; value = val }
+      record { bound_fits = narrow; root_fits = root_fits; first_low = r.0; which = which; is_which = r.1; vector = vector; value = val }
 
   -- ---- no low cone
-  module _ (large : 256 ≤ final) (narrow : IsNarrow m n q) (root_fits : Fits n q unit_vectors) where
+  module _ (large : 256 ≤ final) (narrow : BoundFits m n q) (root_fits : Fits n q unit_vectors) where
     clear : IsClear m n q d
-    clear = record { narrow = narrow; root_fits = root_fits; none_low = none_low m n q d judged final s fair small large }
+    clear = record { bound_fits = narrow; root_fits = root_fits; none_low = none_low m n q d judged final s fair small large }
 
     is_bound : IsFinalBound m n q d (bound_under m final)
     is_bound = final_bound m n q d judged final s fair small large some narrow
@@ -111,7 +113,7 @@ module _ (m : Mode) (n : ℕ) (q : Matrix) (d : ℕ) (judged : List Judged) (fin
               (λ h. not_closed (subst (λ (r : Path). IsClosedUnder m n q r final) same h))
               (λ a k. w.above a (subst (IsAbove a) same k))))
           at_fate not_closed j c same (inl split) =
-              let can : CanSplit n q (cone_at n q p) = subst (λ (r : Path). CanSplit n q (cone_at n q r)) same (split_can m n q d j.path j.fate (fair.judgements j c).fate split).0 in
+              let can : CanSplit n q (cone_at n q p) = subst (λ (r : Path). CanSplit n q (cone_at n q r)) same (split_can m n q d j.path j.fate (judged_fate m n q d final j (fair.judgements j c)) split).0 in
               record {
                 i = can.i;
                 j = can.j;
@@ -124,7 +126,7 @@ module _ (m : Mode) (n : ℕ) (q : Matrix) (d : ℕ) (judged : List Judged) (fin
 
           at_judged : (¬ IsClosedUnder m n q p final) → HasPath judged p → HasChildren n q (IsJudgedWay m n q judged final) p
           at_judged not_closed (j, c, same) = at_fate not_closed j c same
-              (split_or_limit m n q d final j.path j.fate small large (fair.judgements j c).fate (fair.judgements j c).above_final (judged_in_tree m n q d judged final s fair j c).short
+              (split_or_limit m n q d final j.path j.fate small large (judged_fate m n q d final j (fair.judgements j c)) (fair.judgements j c).above_final (judged_in_tree m n q d judged final s fair j c).short
               (λ h. not_closed (subst (λ (r : Path). IsClosedUnder m n q r final) same h)))
 
           by : (IsClosedUnder m n q p final ⊎ (¬ IsClosedUnder m n q p final)) → IsClosedUnder m n q p final ⊎ HasChildren n q (IsJudgedWay m n q judged final) p
@@ -137,7 +139,7 @@ module _ (m : Mode) (n : ℕ) (q : Matrix) (d : ℕ) (judged : List Judged) (fin
           (record { has = fair.due [] (inl refl); above = λ a h. absurd (none_above_root a h) }) nonneg
 
 -- ---- the closed answers
-pub attaining_is_judged : (n : ℕ) (q : Matrix) (d : ℕ) (judged : List Judged) (final : ℕ) → IsSymmetric n q → IsFair Least n q d judged final → d ≤ 200 → 0 < n → 256 ≤ final → IsNarrow Least n q → Fits n q unit_vectors
+pub attaining_is_judged : (n : ℕ) (q : Matrix) (d : ℕ) (judged : List Judged) (final : ℕ) → IsSymmetric n q → IsFair Least n q d judged final → d ≤ 200 → 0 < n → 256 ≤ final → BoundFits Least n q → Fits n q unit_vectors
     → ((k : Judged) → Contains judged k → IsLimitFate n q d k.path k.fate → ¬ IsOpen n q d (bound_under Least final) k.path)
     → (x : List ℕ) → Attains n q (bound_under Least final) x
     → (j : Judged) × (k : ℕ) × Contains judged j × (k < n) × ((p : ℕ) → p < n → coordinate x p ≡ cone_at n q j.path k p)
@@ -151,11 +153,11 @@ attaining_is_judged n q d judged final s fair small some large narrow root_fits 
 
 -- vectors lists the generators of judged cones whose value is z
 pub record ListsJudged (n : ℕ) (q : Matrix) (judged : List Judged) (z : ℤ) (vectors : List (List ℕ)) : Type 0 where
-  pub each : (x : List ℕ) → Contains vectors x → (j : Judged) × (k : ℕ) × Contains judged j × (k < n) × IsVector n x (cone_at n q j.path k) × (value n q (cone_at n q j.path) k ≡ z)
-  pub all : (j : Judged) (k : ℕ) (x : List ℕ) → Contains judged j → k < n → IsVector n x (cone_at n q j.path k) → value n q (cone_at n q j.path) k ≡ z → Contains vectors x
+  pub each : (x : List ℕ) → Contains vectors x → (j : Judged) × (k : ℕ) × Contains judged j × (k < n) × IsListOf n x (cone_at n q j.path k) × (value n q (cone_at n q j.path) k ≡ z)
+  pub all : (j : Judged) (k : ℕ) (x : List ℕ) → Contains judged j → k < n → IsListOf n x (cone_at n q j.path k) → value n q (cone_at n q j.path) k ≡ z → Contains vectors x
   pub increasing : IsIncreasing vectors
 
-pub answers_found : (n : ℕ) (q : Matrix) (d : ℕ) (judged : List Judged) (final : ℕ) → IsSymmetric n q → IsFair Least n q d judged final → d ≤ 200 → 0 < n → 256 ≤ final → IsNarrow Least n q → Fits n q unit_vectors
+pub answers_found : (n : ℕ) (q : Matrix) (d : ℕ) (judged : List Judged) (final : ℕ) → IsSymmetric n q → IsFair Least n q d judged final → d ≤ 200 → 0 < n → 256 ≤ final → BoundFits Least n q → Fits n q unit_vectors
     → ((k : Judged) → Contains judged k → IsLimitFate n q d k.path k.fate → ¬ IsOpen n q d (bound_under Least final) k.path)
     → (vectors : List (List ℕ)) → ListsJudged n q judged (bound_under Least final) vectors
     → IsSearchAnswer Least n q d (Found (bound_under Least final) vectors)
@@ -168,7 +170,7 @@ answers_found n q d judged final s fair small some large narrow root_fits none v
     each : (x : List ℕ) → Contains vectors x → Attains n q (bound_under Least final) x
     each x c = by (lists.each x c)
       where
-        by : ((j : Judged) × (k : ℕ) × Contains judged j × (k < n) × IsVector n x (cone_at n q j.path k) × (value n q (cone_at n q j.path) k ≡ bound_under Least final)) → Attains n q (bound_under Least final) x
+        by : ((j : Judged) × (k : ℕ) × Contains judged j × (k < n) × IsListOf n x (cone_at n q j.path k) × (value n q (cone_at n q j.path) k ≡ bound_under Least final)) → Attains n q (bound_under Least final) x
         by (j, k, cj, l, vector, e) =
             let nz : IsNonzeroBelow n (cone_at n q j.path k) = (proper n q j.path).nonzero k l in
             record { size = vector.size; nonzero = (nz.0, nz.1, λ z. nz.2 (sym (vector.same nz.0 nz.1) ∙ z)); value = value_same n q (coordinate x) (cone_at n q j.path k) vector.same ∙ e }

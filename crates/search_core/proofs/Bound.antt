@@ -8,8 +8,10 @@ use Rattle.unimodular_cone.specs.Paths.{Path, IsAbove}
 use Rattle.unimodular_cone.specs.Cones.{Matrix, value, cone_from, cone_at}
 use Rattle.unimodular_cone.specs.declared.Mode.TheVariants.{Least}
 use Rattle.unimodular_cone.specs.Tree.{IsInTree, IsFinalBound}
-use Rattle.unimodular_cone.specs.Answer.{IsNarrow}
-use Rattle.search_core.specs.Fair.{Judged, least_value, least_diagonal, code, start_word, bound_under, IsClosedUnder, IsSplit, HasPath, IsFair}
+use Rattle.unimodular_cone.specs.Answer.{BoundFits}
+use Rattle.search_core.specs.Fair.{Judged, least_value, least_diagonal, code, start_word, bound_under, IsSplit, HasPath, IsFair}
+use Rattle.search_core.proofs.PathFates.{IsClosedUnder}
+use Rattle.search_core.proofs.ShownFates.{judged_fate}
 use Rattle.unimodular_cone.proofs.Covers.{generator_lies, closed_at_least}
 use Rattle.unimodular_cone.proofs.Generators.{proper}
 use Rattle.search_core.proofs.LeastValues.{least_value_le, least_value_attained, least_diagonal_le, least_diagonal_attained, root_value, code_not_low, start_not_low, bound_at, bound_within, abs_le}
@@ -22,7 +24,7 @@ le_trans_ℤ : (x y z : ℤ) → x ≤ℤ y → y ≤ℤ z → x ≤ℤ z
 le_trans_ℤ x y z h k = omega (arith, ints)
 
 module _ (n : ℕ) (q : Matrix) (d : ℕ) (judged : List Judged) (final : ℕ) (s : IsSymmetric n q) (fair : IsFair Least n q d judged final)
-    (small : d ≤ 200) (large : 256 ≤ final) (some : 0 < n) (narrow : IsNarrow Least n q) where
+    (small : d ≤ 200) (large : 256 ≤ final) (some : 0 < n) (narrow : BoundFits Least n q) where
   tree_value : (p : Path) → IsInTree n q d p → (k : ℕ) → k < n → pos 1 ≤ℤ value n q (cone_at n q p) k
   tree_value p t k l = not_low_Least _ (λ h. none_low Least n q d judged final s fair small large p t (k, l, h))
 
@@ -70,7 +72,7 @@ module _ (n : ℕ) (q : Matrix) (d : ℕ) (judged : List Judged) (final : ℕ) (
     where
       go : (rest done : Path) → done ++ rest ≡ p → HasPath judged done → HasPath judged p ⊎ ((a : Path) × IsAbove a p × IsClosedUnder Least n q a final)
       go [] done e h = inl (subst (HasPath judged) (sym (append_nil done) ∙ e) h)
-      go (side ∷ rest) done e (j, c, same) = by (split_or_closed Least n q d final j.path p j.fate small large (fair.judgements j c).fate (fair.judgements j c).above_final above t) (go rest)
+      go (side ∷ rest) done e (j, c, same) = by (split_or_closed Least n q d final j.path p j.fate small large (judged_fate Least n q d final j (fair.judgements j c)) (fair.judgements j c).above_final above t) (go rest)
         where
           above : IsAbove j.path p
           above = (side, rest, sym e ∙ ap (λ (w : Path). w ++ side ∷ rest) (sym same))

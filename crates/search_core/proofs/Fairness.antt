@@ -8,7 +8,9 @@ use Rattle.unimodular_cone.specs.Paths.{Path, IsAbove, IsNoLater, IsNoDeeper}
 use Rattle.unimodular_cone.specs.Cones.{Matrix, cone_at}
 use Rattle.unimodular_cone.specs.declared.Mode.{Mode}
 use Rattle.unimodular_cone.specs.Tree.{IsInTree, IsLow, IsFirstLowAt, IsFirstLow, HasWideChild, IsOpen, IsFirstOpen, IsFirstOverBelow}
-use Rattle.search_core.specs.Fair.{Fate, AtLimit, Judged, word_of, bound_under, IsClosedUnder, IsFate, IsSplit, HasPath, IsDue, IsFair, IsLowFate}
+use Rattle.search_core.specs.Fair.{Fate, AtLimit, Judged, word_of, bound_under, IsSplit, HasPath, IsDue, IsFair, IsLowFate}
+use Rattle.search_core.proofs.PathFates.{IsClosedUnder, IsPathFate}
+use Rattle.search_core.proofs.ShownFates.{judged_fate}
 use Rattle.unimodular_cone.proofs.Tree.{length_child, in_tree_root, in_tree_child}
 use Rattle.search_core.proofs.Settle.{split_not_wide, split_above_low, low_itself, word_of_low, split_above_open, IsLimitFate, split_or_limit, split_can}
 
@@ -33,7 +35,7 @@ module _ (m : Mode) (n : ℕ) (q : Matrix) (d : ℕ) (judged : List Judged) (fin
       at_due rec (inl e) = subst (IsInTree n q d) (sym e) (in_tree_root n q d)
       at_due rec (inr (k, side, ck, split, e)) =
           let t : IsInTree n q d k.path = rec k ck (omega (arith, ap length e, length_child k.path side)) in
-          let can = split_can m n q d k.path k.fate (fair.judgements k ck).fate split in
+          let can = split_can m n q d k.path k.fate (judged_fate m n q d final k (fair.judgements k ck)) split in
           let h : length k.path ≤ d = t.short in
           subst (IsInTree n q d) (sym e) (in_tree_child n q d k.path side t (lt_of_ne (length k.path) d h can.1) can.0)
 
@@ -55,13 +57,13 @@ module _ (m : Mode) (n : ℕ) (q : Matrix) (d : ℕ) (judged : List Judged) (fin
   low_is_judged p t low short = by (reached p splits)
     where
       splits : (j : Judged) → Contains judged j → IsAbove j.path p → IsSplit j.fate
-      splits j c above = split_above_low m n q d final j.path p j.fate s (fair.judgements j c).fate (fair.judgements j c).above_final above t low short
+      splits j c above = split_above_low m n q d final j.path p j.fate s (judged_fate m n q d final j (fair.judgements j c)) (fair.judgements j c).above_final above t low short
 
       by : HasPath judged p → (j : Judged) × Contains judged j × (j.path ≡ p) × IsLowFate j.fate × (length p ≡ final)
       by (j, c, same) =
           let low_j : IsLow m n q (cone_at n q j.path) = subst (λ (w : Path). IsLow m n q (cone_at n q w)) (sym same) low in
           let short_j : length j.path ≤ final = subst (λ (w : Path). length w ≤ final) (sym same) short in
-          let f : IsLowFate j.fate = low_itself m n q d final j.path j.fate (fair.judgements j c).fate (fair.judgements j c).above_final low_j short_j in
+          let f : IsLowFate j.fate = low_itself m n q d final j.path j.fate (judged_fate m n q d final j (fair.judgements j c)) (fair.judgements j c).above_final low_j short_j in
           let e : word_of j.path j.fate ≡ length j.path = word_of_low j.path j.fate f in
           let a : final ≤ word_of j.path j.fate = (fair.judgements j c).above_final in
           let l : length j.path ≡ length p = ap length same in
@@ -76,8 +78,8 @@ module _ (m : Mode) (n : ℕ) (q : Matrix) (d : ℕ) (judged : List Judged) (fin
       → IsFirstLow m n q d j.path × IsFirstLowAt m n q (cone_at n q j.path) which
   settles_low j c which e depth first = (record { in_tree = judged_in_tree j c; low = (which, at_which.range, at_which.low); first = others }, at_which)
     where
-      fate : IsFate m n q d j.path (word_of j.path (Fate.Low (suc which))) (Fate.Low (suc which))
-      fate = subst (λ (f : Fate). IsFate m n q d j.path (word_of j.path f) f) e (fair.judgements j c).fate
+      fate : IsPathFate m n q d j.path (word_of j.path (Fate.Low (suc which))) (Fate.Low (suc which))
+      fate = subst (λ (f : Fate). IsPathFate m n q d j.path (word_of j.path f) f) e (judged_fate m n q d final j (fair.judgements j c))
 
       at_which : IsFirstLowAt m n q (cone_at n q j.path) which
       at_which = by fate.1
@@ -103,12 +105,12 @@ module _ (m : Mode) (n : ℕ) (q : Matrix) (d : ℕ) (judged : List Judged) (fin
   open_is_judged small large p o = by (reached p splits)
     where
       splits : (j : Judged) → Contains judged j → IsAbove j.path p → IsSplit j.fate
-      splits j c above = split_above_open m n q d final j.path p j.fate small large (fair.judgements j c).fate (fair.judgements j c).above_final above o.in_tree (o.above j.path above)
+      splits j c above = split_above_open m n q d final j.path p j.fate small large (judged_fate m n q d final j (fair.judgements j c)) (fair.judgements j c).above_final above o.in_tree (o.above j.path above)
 
       no_split : (j : Judged) → Contains judged j → j.path ≡ p → ((length p ≡ d) ⊎ HasWideChild n q p) → IsSplit j.fate → ⊥
-      no_split j c same (inl e) sp = (split_can m n q d j.path j.fate (fair.judgements j c).fate sp).1 (ap length same ∙ e)
+      no_split j c same (inl e) sp = (split_can m n q d j.path j.fate (judged_fate m n q d final j (fair.judgements j c)) sp).1 (ap length same ∙ e)
       no_split j c same (inr (at_path, entry, wide)) sp =
-          split_not_wide n q j.path at_path entry (split_can m n q d j.path j.fate (fair.judgements j c).fate sp).0 (subst (λ (w : Path). IsFirstOverBelow n q w at_path entry) (sym same) wide)
+          split_not_wide n q j.path at_path entry (split_can m n q d j.path j.fate (judged_fate m n q d final j (fair.judgements j c)) sp).0 (subst (λ (w : Path). IsFirstOverBelow n q w at_path entry) (sym same) wide)
 
       which : (j : Judged) → Contains judged j → j.path ≡ p → (IsSplit j.fate ⊎ IsLimitFate n q d j.path j.fate) → IsLimitFate n q d j.path j.fate
       which j c same (inl sp) = absurd (no_split j c same o.ends sp)
@@ -119,7 +121,7 @@ module _ (m : Mode) (n : ℕ) (q : Matrix) (d : ℕ) (judged : List Judged) (fin
         j,
         c,
         same,
-        which j c same (split_or_limit m n q d final j.path j.fate small large (fair.judgements j c).fate (fair.judgements j c).above_final
+        which j c same (split_or_limit m n q d final j.path j.fate small large (judged_fate m n q d final j (fair.judgements j c)) (fair.judgements j c).above_final
             (judged_in_tree j c).short (λ h. o.itself (subst (λ (w : Path). IsClosedUnder m n q w final) same h))),
       )
 

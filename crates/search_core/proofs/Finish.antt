@@ -55,7 +55,7 @@ has_path x (j ∷ judged) h = by (path_or_not x j.path) (has_path x judged)
     by (inl e) rec = (j, contains_here j judged, sym e)
     by (inr ne) rec = let r = rec (let o : times x (j.path ∷ paths judged) ≡ times x (paths judged) = times_other x j.path (paths judged) ne in omega arith) in (r.0, contains_there j judged r.0 r.1, r.2)
 
-stands_judged : (judged : List Judged) (j : Judged) → Contains judged j → 1 ≤ times j.path (paths judged)
+pub stands_judged : (judged : List Judged) (j : Judged) → Contains judged j → 1 ≤ times j.path (paths judged)
 stands_judged [] j (k, l, e) = absurd (omega arith)
 stands_judged (i ∷ judged) j c = by (contains_cons i judged j c) (stands_judged judged j)
   where
@@ -87,7 +87,7 @@ stands_due judged x (inr (j, side, c, split, e)) = subst (λ (w : Path). 1 ≤ t
     (let h = in_below_splits judged j side c split in omega (arith, times_cons (j.path ++ side ∷ []) [] (below_splits judged)))
 
 -- a path among a fate's children
-from_children : (x r : Path) (f : Fate) → 1 ≤ times x (children_of r f) → IsSplit f × ((side : Bool) × (x ≡ r ++ side ∷ []))
+pub from_children : (x r : Path) (f : Fate) → 1 ≤ times x (children_of r f) → IsSplit f × ((side : Bool) × (x ≡ r ++ side ∷ []))
 from_children x r (Closed w) h = absurd (omega (arith, times_none x))
 from_children x r (Split i j w) h = (tt, by (path_or_not x (r ++ false ∷ [])) (path_or_not x (r ++ true ∷ [])))
   where
@@ -100,7 +100,7 @@ from_children x r (Dropped w) h = absurd (omega (arith, times_none x))
 from_children x r (AtLimit w) h = absurd (omega (arith, times_none x))
 from_children x r (Wide w at) h = absurd (omega (arith, times_none x))
 
-from_below_splits : (x : Path) (judged : List Judged) → 1 ≤ times x (below_splits judged) → (j : Judged) × (side : Bool) × Contains judged j × IsSplit j.fate × (x ≡ j.path ++ side ∷ [])
+pub from_below_splits : (x : Path) (judged : List Judged) → 1 ≤ times x (below_splits judged) → (j : Judged) × (side : Bool) × Contains judged j × IsSplit j.fate × (x ≡ j.path ++ side ∷ [])
 from_below_splits x [] h = absurd (omega (arith, times_none x))
 from_below_splits x (j ∷ judged) h = by (here (times x (children_of j.path j.fate)) (times x (below_splits judged)) (omega (arith, times-append x (children_of j.path j.fate) (below_splits judged)))) (from_below_splits x judged)
   where

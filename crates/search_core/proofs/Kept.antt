@@ -10,6 +10,8 @@ use Rattle.unimodular_cone.specs.declared.Mode.TheVariants.{Sign, Least}
 use Rattle.unimodular_cone.specs.Tree.{IsLow, IsLowValue}
 use Rattle.search_core.specs.Fair.{Fate, Closed, Split, Low, Dropped, AtLimit, Wide, Judged, word_of, least_value, code_of, code, start_word, IsFate, IsJudgement}
 use Rattle.search_core.specs.Machine.{Hand, Empty, Taken, Offered, State, hand, children_of, IsTake, IsOffer, IsJudge, held, in_hands, paths, standing, below_splits, due, times, IsCoded, IsKept}
+use Rattle.search_core.proofs.PathFates.{IsPathFate}
+use Rattle.search_core.proofs.ShownFates.{path_fate}
 use Rattle.exact_forms.proofs.Vectors.{contains_here, contains_there, contains_cons}
 use Rattle.search_core.proofs.LeastValues.{least_value_le}
 use Rattle.search_core.proofs.Times.{times-append, times_cons, times_hands, times_none}
@@ -61,19 +63,21 @@ pub record IsOwn (m : Mode) (n : ℕ) (q : Matrix) (d final : ℕ) (p : Path) (f
   pub below_code : word_of p f ≤ code m n q p
 
 pub own_word : (m : Mode) (n : ℕ) (q : Matrix) (d final word : ℕ) (p : Path) (f : Fate) → IsFate m n q d p word f → final ≤ word → word ≤ code m n q p → final ≤ code m n q p → IsOwn m n q d final p f
-own_word m n q d final word p (Closed w) h le below low = let e : w ≡ word = h.0 in
+own_word m n q d final word p (Closed w) h le below low = let e : w ≡ word = h.2.0 in
     record { fate = subst (λ (u : ℕ). IsFate m n q d p u (Closed w)) (sym e) h; above_final = omega arith; below_code = omega arith }
-own_word m n q d final word p (Split i j w) h le below low = let e : w ≡ word = h.0 in
+own_word m n q d final word p (Split i j w) h le below low = let e : w ≡ word = h.2.0 in
     record { fate = subst (λ (u : ℕ). IsFate m n q d p u (Split i j w)) (sym e) h; above_final = omega arith; below_code = omega arith }
-own_word m n q d final word p (Dropped w) h le below low = let e : w ≡ word = h.0 in
+own_word m n q d final word p (Dropped w) h le below low = let e : w ≡ word = h.2.0 in
     record { fate = subst (λ (u : ℕ). IsFate m n q d p u (Dropped w)) (sym e) h; above_final = omega arith; below_code = omega arith }
-own_word m n q d final word p (AtLimit w) h le below low = let e : w ≡ word = h.0 in
+own_word m n q d final word p (AtLimit w) h le below low = let e : w ≡ word = h.2.0 in
     record { fate = subst (λ (u : ℕ). IsFate m n q d p u (AtLimit w)) (sym e) h; above_final = omega arith; below_code = omega arith }
-own_word m n q d final word p (Wide w at) h le below low = let e : w ≡ word = h.0 in
+own_word m n q d final word p (Wide w at) h le below low = let e : w ≡ word = h.2.0 in
     record { fate = subst (λ (u : ℕ). IsFate m n q d p u (Wide w at)) (sym e) h; above_final = omega arith; below_code = omega arith }
 own_word m n q d final word p (Low k) h le below low =
-    let e : code m n q p ≡ length p = code_when_low m n q p (h.1.0, h.1.2.range, h.1.2.low) in
-    record { fate = ((λ _. omega arith), h.1); above_final = omega arith; below_code = omega arith }
+    let own : IsPathFate m n q d p word (Low k) = path_fate m n q d p word (Low k) h in
+    let e : code m n q p ≡ length p = code_when_low m n q p (own.1.0, own.1.2.range, own.1.2.low) in
+    let same : length h.0.path ≡ length p = ap length h.1.path_is in
+    record { fate = (h.0, h.1, ((λ _. omega arith), h.2.1)); above_final = omega arith; below_code = omega arith }
 
 -- ---- Take
 pub take_keeps : (m : Mode) (n : ℕ) (q : Matrix) (d : ℕ) (s t : State) (k : ℕ) (path : Path) → IsKept m n q d s → IsTake s k path t → IsKept m n q d t

@@ -16,7 +16,7 @@ use Rattle.symmetric_matrix.specs.Lists.{IsVectorList, CanFollow}
 use Rattle.symmetric_matrix.proofs.Lists.{list_push}
 use Rattle.symmetric_matrix.proofs.Runs.{Contains-map, Contains-map_back}
 use Rattle.unimodular_cone.specs.Cones.{Matrix, value, cone_at}
-use Rattle.unimodular_cone.specs.Answer.{IsVector}
+use Rattle.unimodular_cone.specs.Answer.{IsListOf}
 use Rattle.unimodular_cone.specs.Shown.{ShownCone, shown_gram, shown_coordinate, shown_generators, IsWithinLimits, IsConeAt}
 use Rattle.exact_forms.proofs.Vectors.{contains_cons, contains_here, contains_there, vector_decided}
 use Rattle.unimodular_cone.proofs.ShownLaws.{coordinate_within}
@@ -283,7 +283,7 @@ listing_end n keys list rest h e = record { same = h.list_is ∙ ap (map (take n
 
 -- ---- the list of the generators
 module _ (n : ℕ) (q : Matrix) (judged : List Judged) (z : ℤ) (keys vectors : List (List ℕ)) (few : n ≤ 8) (h : HasGenerators n q judged z keys) (v : IsVectorsOf n keys vectors) where
-  as_vector : (x : List ℕ) (w : ℕ → ℤ) → IsPadded n x w → IsVector n (take n x) w
+  as_vector : (x : List ℕ) (w : ℕ → ℤ) → IsPadded n x w → IsListOf n (take n x) w
   as_vector x w p = record {
     size = length-take-le n x (rw p.size few);
     same = λ i l. ap pos (get_or-take n x i 0 l) ∙ p.same i l;
@@ -292,16 +292,16 @@ module _ (n : ℕ) (q : Matrix) (judged : List Judged) (z : ℤ) (keys vectors :
   pub lists_generators : ListsGenerators n q judged z vectors
   lists_generators = record { each = each; all = all; increasing = v.increasing }
     where
-      each : (x : List ℕ) → Contains vectors x → (j : Judged) × (k : ℕ) × Contains judged j × (k < n) × IsVector n x (cone_at n q j.path k) × (value n q (cone_at n q j.path) k ≡ z)
+      each : (x : List ℕ) → Contains vectors x → (j : Judged) × (k : ℕ) × Contains judged j × (k < n) × IsListOf n x (cone_at n q j.path k) × (value n q (cone_at n q j.path) k ≡ z)
       each x c =
           let r = Contains-map_back (take n) keys x (subst (λ (w : List (List ℕ)). Contains w x) v.same c) in
           let g = h.each r.0 r.1 in
-          (g.0, g.1, g.2, g.3, subst (λ (w : List ℕ). IsVector n w (cone_at n q g.0.path g.1)) r.2 (as_vector r.0 (cone_at n q g.0.path g.1) g.4), g.5)
+          (g.0, g.1, g.2, g.3, subst (λ (w : List ℕ). IsListOf n w (cone_at n q g.0.path g.1)) r.2 (as_vector r.0 (cone_at n q g.0.path g.1) g.4), g.5)
 
-      all : (j : Judged) (k : ℕ) (x : List ℕ) → Contains judged j → j.least ≡ z → k < n → IsVector n x (cone_at n q j.path k) → value n q (cone_at n q j.path) k ≡ z → Contains vectors x
+      all : (j : Judged) (k : ℕ) (x : List ℕ) → Contains judged j → j.least ≡ z → k < n → IsListOf n x (cone_at n q j.path k) → value n q (cone_at n q j.path) k ≡ z → Contains vectors x
       all j k x c e l vec val =
           let r = h.all j k c e l val in
-          let t : IsVector n (take n r.0) (cone_at n q j.path k) = as_vector r.0 (cone_at n q j.path k) r.2 in
+          let t : IsListOf n (take n r.0) (cone_at n q j.path k) = as_vector r.0 (cone_at n q j.path k) r.2 in
           let same : take n r.0 ≡ x = vector_decided n (take n r.0) x t.size vec.size (λ p lp. t.same p lp ∙ sym (vec.same p lp)) in
           subst (λ (w : List (List ℕ)). Contains w x) (sym v.same) (subst (Contains (map (take n) keys)) same (Contains-map (take n) keys r.0 r.1))
 

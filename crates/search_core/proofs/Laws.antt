@@ -7,7 +7,8 @@ use Rattle.unimodular_cone.specs.declared.WideEntry.{WideEntry}
 use Rattle.unimodular_cone.specs.Cones.{Matrix, cone_at}
 use Rattle.unimodular_cone.specs.declared.Mode.{Mode}
 use Rattle.unimodular_cone.specs.Tree.{IsLow, IsFirstLowAt, IsFirstOverBelow}
-use Rattle.search_core.specs.Fair.{Fate, Closed, Split, Low, Dropped, AtLimit, Wide, IsClosedUnder, IsSplitAt, IsFate}
+use Rattle.search_core.specs.Fair.{Fate, Closed, Split, Low, Dropped, AtLimit, Wide}
+use Rattle.search_core.proofs.PathFates.{IsClosedUnder, IsSplitAt, IsPathFate}
 use Rattle.unimodular_cone.proofs.Pairs.{some_pair}
 use Rattle.search_core.proofs.Settle.{split_not_wide}
 use Rattle.unimodular_cone.proofs.Unique.{first_low_at_unique, first_over_below_unique}
@@ -29,7 +30,7 @@ IsFirstFate m n q d p word f = ((f ≡ Dropped word) × (word < 256) × (word < 
 soften : (a b : ℕ) → (b < 256 → a < b) → b < 256 → a ≤ b
 soften a b h l = let k : a < b = h l in omega arith
 
-fate_in_order : (m : Mode) (n : ℕ) (q : Matrix) (d : ℕ) (p : Path) (word : ℕ) (f : Fate) → IsFate m n q d p word f → IsFirstFate m n q d p word f
+fate_in_order : (m : Mode) (n : ℕ) (q : Matrix) (d : ℕ) (p : Path) (word : ℕ) (f : Fate) → IsPathFate m n q d p word f → IsFirstFate m n q d p word f
 fate_in_order m n q d p word (Closed w) (e, l, not_low, c) = inr (l, inr (not_low, inl (ap Closed e, c)))
 fate_in_order m n q d p word (Low which) (l, (k, e, h)) = inr (l, inl (k, ap Low e, h))
 fate_in_order m n q d p word (Dropped w) (e, l, inl lt) = inl (ap Dropped e, l, lt)
@@ -59,7 +60,7 @@ third_unique m n q d p word f g (inr (nc, inl (x, l, e))) (inr (nc', inr (lt, h)
 third_unique m n q d p word f g (inr (nc', inr (lt, h))) (inr (nc, inl (x, l, e))) = absurd (let k : length p < word = lt l in omega arith)
 third_unique m n q d p word f g (inr (nc, inr (lt, h))) (inr (nc', inr (lt', h'))) = ending_unique m n q d p word f g h h'
 
-pub fate_unique : (m : Mode) (n : ℕ) (q : Matrix) (d : ℕ) (p : Path) (word : ℕ) (f g : Fate) → IsFate m n q d p word f → IsFate m n q d p word g → f ≡ g
+pub fate_unique : (m : Mode) (n : ℕ) (q : Matrix) (d : ℕ) (p : Path) (word : ℕ) (f g : Fate) → IsPathFate m n q d p word f → IsPathFate m n q d p word g → f ≡ g
 fate_unique m n q d p word f g h k = by (fate_in_order m n q d p word f h) (fate_in_order m n q d p word g k)
   where
     by : IsFirstFate m n q d p word f → IsFirstFate m n q d p word g → f ≡ g

@@ -11,7 +11,8 @@ use Rattle.exact_forms.proofs.Slacks.{replaced_here, replaced_other}
 use Rattle.unimodular_cone.specs.Cones.{Matrix, Generators, value, unit_vectors}
 use Rattle.unimodular_cone.specs.declared.Mode.{Mode}
 use Rattle.unimodular_cone.specs.declared.Mode.TheVariants.{Sign, Least}
-use Rattle.search_core.specs.Fair.{least_upto, least_value, least_diagonal, code_of, start_of, bound_under}
+use Rattle.search_core.specs.Fair.{least_upto, code_of, start_of, bound_under}
+use Rattle.search_core.specs.Fates.{least_value, least_diagonal}
 
 pub least_upto_le : (n : ℕ) (f : ℕ → ℤ) (k : ℕ) → k ≤ n → least_upto n f ≤ℤ f k
 least_upto_le zero f k l = let e : k ≡ 0 = omega arith in subst (λ (i : ℕ). f 0 ≤ℤ f i) (sym e) (omega (arith, ints))

@@ -1,4 +1,5 @@
 pub mod LeastValues
+pub mod PathFates
 pub mod Settle
 pub mod Fairness
 pub mod Bound

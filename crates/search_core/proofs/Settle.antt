@@ -11,7 +11,8 @@ use Rattle.unimodular_cone.specs.Cones.{Matrix, Generators, gram, child, cone_at
 use Rattle.unimodular_cone.specs.declared.Mode.{Mode}
 use Rattle.unimodular_cone.specs.declared.Mode.TheVariants.{Sign, Least}
 use Rattle.unimodular_cone.specs.Tree.{CanSplit, IsInTree, IsLowValue, IsLow, IsFirstOverBelow}
-use Rattle.search_core.specs.Fair.{Fate, Closed, Split, Dropped, AtLimit, word_of, bound_under, IsClosedUnder, IsFate, IsSplit, IsLowFate}
+use Rattle.search_core.specs.Fair.{Fate, Closed, Split, Dropped, AtLimit, word_of, bound_under, IsSplit, IsLowFate}
+use Rattle.search_core.proofs.PathFates.{IsClosedUnder, IsPathFate}
 use Rattle.unimodular_cone.proofs.Pairs.{some_pair}
 use Rattle.unimodular_cone.proofs.Covers.{generator_lies, closed_at_least, closed_nonnegative, IsNonzeroBelow}
 use Rattle.unimodular_cone.proofs.Bounded.{closed_or_not}
@@ -58,7 +59,7 @@ low_not_closed_above m n q a p word s h (k, l, low) closed =
     low_not_in_closed m n q (cone_at n q a) word (cone_at n q p k) s closed (lies_above_path n q a p (cone_at n q p k) h (generator_lies n (cone_at n q p) k l)) ((proper n q p).nonzero k l) low
 
 -- ---- above a low path of the tree that is no deeper than the final word every judgement is a Split
-pub split_above_low : (m : Mode) (n : ℕ) (q : Matrix) (d final : ℕ) (a p : Path) (f : Fate) → IsSymmetric n q → IsFate m n q d a (word_of a f) f → final ≤ word_of a f
+pub split_above_low : (m : Mode) (n : ℕ) (q : Matrix) (d final : ℕ) (a p : Path) (f : Fate) → IsSymmetric n q → IsPathFate m n q d a (word_of a f) f → final ≤ word_of a f
     → IsAbove a p → IsInTree n q d p → IsLow m n q (cone_at n q p) → length p ≤ final → IsSplit f
 split_above_low m n q d final a p (Closed w) s fate le above t low short = absurd (low_not_closed_above m n q a p w s above low fate.3)
 split_above_low m n q d final a p (Split i j w) s fate le above t low short = tt
@@ -75,7 +76,7 @@ split_above_low m n q d final a p (AtLimit w) s fate le above t low short = absu
 split_above_low m n q d final a p (Fate.Wide w at) s fate le above t low short = absurd (split_not_wide n q a at.path at.entry (t.above a above) fate.3)
 
 -- and the path's own judgement is Low
-pub low_itself : (m : Mode) (n : ℕ) (q : Matrix) (d final : ℕ) (p : Path) (f : Fate) → IsFate m n q d p (word_of p f) f → final ≤ word_of p f
+pub low_itself : (m : Mode) (n : ℕ) (q : Matrix) (d final : ℕ) (p : Path) (f : Fate) → IsPathFate m n q d p (word_of p f) f → final ≤ word_of p f
     → IsLow m n q (cone_at n q p) → length p ≤ final → IsLowFate f
 low_itself m n q d final p (Closed w) fate le low short = absurd (fate.2 low)
 low_itself m n q d final p (Split i j w) fate le low short = absurd (fate.1.not_low low)
@@ -97,7 +98,7 @@ word_of_low p (AtLimit w) h = absurd h
 word_of_low p (Fate.Wide w at) h = absurd h
 
 -- ---- where no cone of the tree is low: above a path with no closed cone above it every judgement is a Split
-pub split_above_open : (m : Mode) (n : ℕ) (q : Matrix) (d final : ℕ) (a p : Path) (f : Fate) → d ≤ 200 → 256 ≤ final → IsFate m n q d a (word_of a f) f → final ≤ word_of a f
+pub split_above_open : (m : Mode) (n : ℕ) (q : Matrix) (d final : ℕ) (a p : Path) (f : Fate) → d ≤ 200 → 256 ≤ final → IsPathFate m n q d a (word_of a f) f → final ≤ word_of a f
     → IsAbove a p → IsInTree n q d p → (¬ IsClosedUnder m n q a final) → IsSplit f
 split_above_open m n q d final a p (Closed w) small large fate le above t not_closed = absurd (not_closed (closed_below n (gram n q (cone_at n q a)) _ _ (bound_grows m final w le) fate.3))
 split_above_open m n q d final a p (Split i j w) small large fate le above t not_closed = tt
@@ -111,7 +112,7 @@ pub record IsLimitFate (n : ℕ) (q : Matrix) (d : ℕ) (p : Path) (f : Fate) : 
   pub word : ℕ
   pub which : ((f ≡ AtLimit word) × (length p ≡ d)) ⊎ ((at : WideAt) × (f ≡ Fate.Wide word at) × (length p ≢ d) × IsFirstOverBelow n q p at.path at.entry)
 
-pub split_or_limit : (m : Mode) (n : ℕ) (q : Matrix) (d final : ℕ) (p : Path) (f : Fate) → d ≤ 200 → 256 ≤ final → IsFate m n q d p (word_of p f) f → final ≤ word_of p f
+pub split_or_limit : (m : Mode) (n : ℕ) (q : Matrix) (d final : ℕ) (p : Path) (f : Fate) → d ≤ 200 → 256 ≤ final → IsPathFate m n q d p (word_of p f) f → final ≤ word_of p f
     → length p ≤ d → (¬ IsClosedUnder m n q p final) → IsSplit f ⊎ IsLimitFate n q d p f
 split_or_limit m n q d final p (Closed w) small large fate le short not_closed = absurd (not_closed (closed_below n (gram n q (cone_at n q p)) _ _ (bound_grows m final w le) fate.3))
 split_or_limit m n q d final p (Split i j w) small large fate le short not_closed = inl tt
@@ -121,7 +122,7 @@ split_or_limit m n q d final p (AtLimit w) small large fate le short not_closed 
 split_or_limit m n q d final p (Fate.Wide w at) small large fate le short not_closed = inr (record { word = w; which = inr (at, refl, fate.2, fate.3) })
 
 -- a Split's cone can split, and is not at the limit
-pub split_can : (m : Mode) (n : ℕ) (q : Matrix) (d : ℕ) (p : Path) (f : Fate) → IsFate m n q d p (word_of p f) f → IsSplit f → CanSplit n q (cone_at n q p) × (length p ≢ d)
+pub split_can : (m : Mode) (n : ℕ) (q : Matrix) (d : ℕ) (p : Path) (f : Fate) → IsPathFate m n q d p (word_of p f) f → IsSplit f → CanSplit n q (cone_at n q p) × (length p ≢ d)
 split_can m n q d p (Closed w) fate h = absurd h
 split_can m n q d p (Split i j w) fate h = (record { i = fate.3.row; j = fate.3.column; pair = fate.3.pair; first_fits = fate.3.first_fits; second_fits = fate.3.second_fits }, fate.2)
 split_can m n q d p (Fate.Low k) fate h = absurd h
@@ -130,7 +131,7 @@ split_can m n q d p (AtLimit w) fate h = absurd h
 split_can m n q d p (Fate.Wide w at) fate h = absurd h
 
 -- above a path of the tree, where no cone is low, a judgement is a Split or closed at the final bound
-pub split_or_closed : (m : Mode) (n : ℕ) (q : Matrix) (d final : ℕ) (a p : Path) (f : Fate) → d ≤ 200 → 256 ≤ final → IsFate m n q d a (word_of a f) f → final ≤ word_of a f
+pub split_or_closed : (m : Mode) (n : ℕ) (q : Matrix) (d final : ℕ) (a p : Path) (f : Fate) → d ≤ 200 → 256 ≤ final → IsPathFate m n q d a (word_of a f) f → final ≤ word_of a f
     → IsAbove a p → IsInTree n q d p → IsSplit f ⊎ IsClosedUnder m n q a final
 split_or_closed m n q d final a p f small large fate le above t = by (closed_or_not n (gram n q (cone_at n q a)) (bound_under m final))
   where

@@ -20,7 +20,9 @@ use Rattle.unimodular_cone.proofs.ShownLaws.{shown_gram_mirror}
 use Rattle.unimodular_cone.proofs.LimitsSame.{SameBelow, same_back, fits_same, first_over_same}
 use Rattle.unimodular_cone.proofs.Unique.{both_le}
 use Rattle.unimodular_cone.proofs.Minimum.{not_low_Sign, not_low_Least}
-use Rattle.search_core.specs.Fair.{Fate, Closed, Split, Low, Dropped, AtLimit, Wide, least_upto, least_value, code, code_of, bound_under, IsUndecided, IsSplitAt, IsFate}
+use Rattle.search_core.specs.Fair.{Fate, Closed, Split, Low, Dropped, AtLimit, Wide, least_upto, code, code_of, bound_under, Judged, word_of, IsFate, IsJudgement}
+use Rattle.search_core.specs.Fates.{least_value}
+use Rattle.search_core.proofs.PathFates.{IsUndecided, IsSplitAt, IsPathFate}
 use Rattle.search_core.specs.Scans.{SplitsShown}
 use Rattle.unimodular_cone.proofs.ShownAt.{pair_at, no_pair_at, child_same, child_gram_same}
 use Rattle.search_core.specs.Judging.{shown_least, shown_code, IsLowShown, IsFirstLowShown, IsUndecidedShown, IsShownFate}
@@ -161,7 +163,7 @@ module _ (q : Matrix) (c : ShownCone) (h : IsConeOf c.size q (cone_at c.size q c
       by (inl f) = inl (f.path_is, first_over_same c.size _ _ _ _ at.entry (children_same c.size q _ _ _ i j same (row_range i j p) p.range) f.entry)
       by (inr (fits, f)) = inr (first_fits i j p fits, f.path_is, first_over_same c.size _ _ _ _ at.entry (children_same c.size q _ _ _ j i same p.range (row_range i j p)) f.entry)
 
-  fate_here : (m : Mode) (d word : ℕ) (f : Fate) → IsShownFate m c d word f → IsFate m c.size q d c.path word f
+  fate_here : (m : Mode) (d word : ℕ) (f : Fate) → IsShownFate m c d word f → IsPathFate m c.size q d c.path word f
   fate_here m d word (Closed w) (e, l, not_low, closed) = (e, l, (λ low. not_low (low_to m low)), closed_from _ closed)
   fate_here m d word (Low which) (l, (k, e, f)) = (l, (k, e, first_low_from m k f))
   fate_here m d word (Dropped w) (e, l, inl lt) = (e, l, inl lt)
@@ -172,10 +174,20 @@ module _ (q : Matrix) (c : ShownCone) (h : IsConeOf c.size q (cone_at c.size q c
 
 -- a cone that is shown has the fate of its path
 pub fate_at : (m : Mode) (n : ℕ) (q : Matrix) (d word : ℕ) (path : Path) (c : ShownCone) (f : Fate) → IsConeAt n q path c → IsShownFate m c d word f → IsFate m n q d path word f
-fate_at m n q d word path c f h fate =
-    subst (λ (p : Path). IsFate m n q d p word f) h.path_is
-    (subst (λ (k : ℕ). IsFate m k q d c.path word f) h.cone.size
+fate_at m n q d word path c f h fate = (c, h, fate)
+
+path_fate_at : (m : Mode) (n : ℕ) (q : Matrix) (d word : ℕ) (path : Path) (c : ShownCone) (f : Fate) → IsConeAt n q path c → IsShownFate m c d word f → IsPathFate m n q d path word f
+path_fate_at m n q d word path c f h fate =
+    subst (λ (p : Path). IsPathFate m n q d p word f) h.path_is
+    (subst (λ (k : ℕ). IsPathFate m k q d c.path word f) h.cone.size
     (fate_here q c (subst (λ (k : ℕ). IsConeOf k q (cone_at k q c.path) c) (sym h.cone.size) (subst (λ (p : Path). IsConeOf n q (cone_at n q p) c) (sym h.path_is) h.cone)) m d word f fate))
+
+-- what a fate and a judgement say by the path alone
+pub path_fate : (m : Mode) (n : ℕ) (q : Matrix) (d : ℕ) (path : Path) (word : ℕ) (f : Fate) → IsFate m n q d path word f → IsPathFate m n q d path word f
+path_fate m n q d path word f (c, at, fate) = path_fate_at m n q d word path c f at fate
+
+pub judged_fate : (m : Mode) (n : ℕ) (q : Matrix) (d final : ℕ) (j : Judged) → IsJudgement m n q d final j → IsPathFate m n q d j.path (word_of j.path j.fate) j.fate
+judged_fate m n q d final j judged = path_fate m n q d j.path (word_of j.path j.fate) j.fate judged.fate
 
 -- ---- what a shown cone at a path says of the tree's
 module _ (n : ℕ) (q : Matrix) (path : Path) (c : ShownCone) (h : IsConeAt n q path c) where

@@ -5,14 +5,15 @@
 --     IsWithKey old key new      new has the keys of old and this key
 --     AddsAttaining c m z ..     new has the keys of old and the padded generators of c before m with the value z
 --     HasGenerators              the keys are the padded generators of value z of the judgements whose least value is z
---     AreKeys n keys             each is n numbers of at most 2^62, and zeros up to 8
+--     IsKey n x                  x is n numbers of at most 2^62, and zeros up to 8
+--     AreKeys n keys             each is such a key
 --     IsVectorsOf n keys list    the list has the first n numbers of each key, and is increasing
 --     ListsGenerators            the generators of value z of the judgements whose least value is z, increasing
 use Rattle.std.specs.Prelude.{ℕ, ℤ, ◌<◌, ◌≤◌, ◌^◌, ◌≡◌, ◌⊎◌, List, length, map, take, slice_index_or}
 use Rattle.std.specs.List.{Contains}
 use Rattle.exact_forms.specs.Vectors.{coordinate, IsIncreasing}
 use Rattle.unimodular_cone.specs.Cones.{Matrix, value, cone_at}
-use Rattle.unimodular_cone.specs.Answer.{IsVector}
+use Rattle.unimodular_cone.specs.Answer.{IsListOf}
 use Rattle.unimodular_cone.specs.Shown.{ShownCone, shown_gram, shown_generators}
 use Rattle.search_core.specs.Fair.{Judged}
 
@@ -52,6 +53,6 @@ pub record IsVectorsOf (n : ℕ) (keys vectors : List (List ℕ)) : Type 0 where
   pub increasing : IsIncreasing vectors
 
 pub record ListsGenerators (n : ℕ) (q : Matrix) (judged : List Judged) (z : ℤ) (vectors : List (List ℕ)) : Type 0 where
-  pub each : (x : List ℕ) → Contains vectors x → (j : Judged) × (k : ℕ) × Contains judged j × (k < n) × IsVector n x (cone_at n q j.path k) × (value n q (cone_at n q j.path) k ≡ z)
-  pub all : (j : Judged) (k : ℕ) (x : List ℕ) → Contains judged j → j.least ≡ z → k < n → IsVector n x (cone_at n q j.path k) → value n q (cone_at n q j.path) k ≡ z → Contains vectors x
+  pub each : (x : List ℕ) → Contains vectors x → (j : Judged) × (k : ℕ) × Contains judged j × (k < n) × IsListOf n x (cone_at n q j.path k) × (value n q (cone_at n q j.path) k ≡ z)
+  pub all : (j : Judged) (k : ℕ) (x : List ℕ) → Contains judged j → j.least ≡ z → k < n → IsListOf n x (cone_at n q j.path k) → value n q (cone_at n q j.path) k ≡ z → Contains vectors x
   pub increasing : IsIncreasing vectors

@@ -4,6 +4,8 @@
 --     shown_code m c              the depth if a generator is low, else 256 (Sign), or 256 and the least value (Least)
 --     IsLowShown, IsFirstLowShown some generator is low; k is the first that is, from 0
 --     IsClosedShown m c word      each slack is at least the word's bound
+--     IsUndecidedShown m c word   not low, not closed, and no low cone of this depth or a lesser one is known
+--     IsStartable m z             z is at most 2^63 - 1, where the mode is Least
 --     IsJudgementOf m c d word j  j is the judgement of c: its path, its fate and its least value
 --     IsShownFate m c d word f    f is the fate of c, with limit d, under the word
 use Rattle.std.specs.Prelude.{ℕ, suc, ℤ, pos, ◌≤ℤ◌, ◌^◌, ◌<◌, ◌≤◌, ◌-◌, ◌≡◌, ◌≢◌, ◌⊎◌, length, Some}
@@ -12,7 +14,7 @@ use Rattle.unimodular_cone.specs.declared.Mode.{Mode}
 use Rattle.unimodular_cone.specs.declared.Mode.TheVariants.{Sign, Least}
 use Rattle.unimodular_cone.specs.Tree.{IsLowValue}
 use Rattle.unimodular_cone.specs.Shown.{ShownCone, shown_gram, NamesPair, FitsOnBothSides, IsFirstWideBelow}
-use Rattle.search_core.specs.Fair.{Fate, Judged, Closed, Split, Low, Dropped, AtLimit, Wide, least_upto, code_of, bound_under}
+use Rattle.search_core.specs.Fates.{Fate, Judged, Closed, Split, Low, Dropped, AtLimit, Wide, least_upto, code_of, bound_under}
 
 unfoldable pub shown_least : ShownCone → ℤ
 shown_least c = least_upto (c.size - 1) (λ k. shown_gram c k k)

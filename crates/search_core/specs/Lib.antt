@@ -1,3 +1,4 @@
+pub mod Fates
 pub mod Fair
 pub mod Judging
 pub mod Answers

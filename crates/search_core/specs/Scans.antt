@@ -4,6 +4,7 @@
 --     IsUnclosedDown n q b path  neither the cone at the path nor a cone above it is closed at b
 --     IsOpenEnd n q b j          j is at the limit or has a child that does not fit, and its path is not closed down to it
 --     AreInTree n q d judged     each path of the list is one of the tree
+--     IsFirstWith P judged best  best is the first by place with P
 --     FindsFirst P judged best   best is the first by place with P, None where there is none
 --     SplitsShown c              c has a pair, and both its children fit
 --     IsBefore, IsBehind         a judgement comes before the best so far, or does not

@@ -4,7 +4,7 @@ ghost use Rattle.std.specs.Prelude.{◌≡◌, ◌≤◌, ◌<◌, ◌-◌, ◌^
 ghost use Rattle.symmetric_matrix.specs.Symmetric.{entry};
 ghost use Rattle.unimodular_cone.specs.Cones.{unit_vectors, Fits};
 ghost use Rattle.unimodular_cone.specs.Tree.{IsInTree};
-ghost use Rattle.unimodular_cone.specs.Answer.{IsVector};
+ghost use Rattle.unimodular_cone.specs.Answer.{IsListOf};
 ghost use Rattle.unimodular_cone.specs.Shown.{IsConeAt, IsWithinLimits, shown_generators};
 ghost use Rattle.search_core.specs.Attaining.{IsKeyOf, IsWithKey, AddsAttaining, HasGenerators, AreKeys, IsVectorsOf, ListsGenerators};
 ghost use Rattle.search_core.specs.Scans.{AreInTree};
@@ -48,7 +48,7 @@ fn vector_of(alloc: Global, n: u8, key: &Key) -> IntVector
 pub(crate) fn generator<C: ConeRead>(alloc: Global, c: &C, k: u8) -> IntVector
     requires first { 1 ≤ k }
     requires last { k ≤ (C.cone c.now).size }
-    ensures { IsVector (C.cone c.now).size result (shown_generators (C.cone c.now) (k - 1)) }
+    ensures { IsListOf (C.cone c.now).size result (shown_generators (C.cone c.now) (k - 1)) }
 {
     vector_of(alloc, c.n(), &key_of(c, k))
 }

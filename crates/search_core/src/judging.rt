@@ -5,7 +5,7 @@ ghost use Rattle.unimodular_cone.specs.Answer.{IsLeastDiagonal};
 ghost use Rattle.unimodular_cone.specs.Shown.{shown_gram, IsWithinLimits};
 ghost use Rattle.search_core.specs.Judging.{shown_code, IsLowShown, IsFirstLowShown, IsUndecidedShown, IsShownFate, IsJudgementOf};
 ghost use Rattle.std.specs.Bool.{MatchBool};
-ghost use Rattle.search_core.specs.Fair.{IsTold, IsUntold, IsKeptOrUntold};
+ghost use Rattle.search_core.specs.Fair.{IsRelevant, IsIrrelevant, IsKeptOrIrrelevant};
 
 use crate::fate::{Fate, Judged};
 use crate::words::{bound_under, code_at, is_low_value};
@@ -137,25 +137,25 @@ pub fn lowering_judgement<C: ConeRead>(mode: Mode, c: &C, limit: u8, word: &mut 
 
 /// Whether an answer may look at a judgement that was made under this word: it is low, it is an end of the tree, or its
 /// least value is at most the word's bound.
-pub fn tells(mode: Mode, j: &Judged, word: u64) -> bool
-    ensures { MatchBool result (IsTold mode word j.now) (IsUntold mode word j.now) }
+pub fn is_relevant(mode: Mode, j: &Judged, word: u64) -> bool
+    ensures { MatchBool result (IsRelevant mode word j.now) (IsIrrelevant mode word j.now) }
 {
     match j.fate {
         Fate::Low { .. } | Fate::AtLimit { .. } | Fate::Wide { .. } => true,
         Fate::Closed { .. } | Fate::Split { .. } | Fate::Dropped { .. } => match mode {
             Mode::Sign => false,
-            Mode::Least => j.least <= i128::from(bound_under(mode, word)),
+            Mode::Least => word >= 256 && j.least <= i128::from(bound_under(mode, word)),
         },
     }
 }
 
 /// Keeps a judgement that was made under this word, if an answer may look at it. After a refusal the list is as before.
 pub fn keep(judged: &mut Vec<Judged>, mode: Mode, j: Judged, word: u64) -> Result<(), AllocError>
-    ensures kept { OnOk result (IsKeptOrUntold mode word j judged.old.items judged.new.items) }
-    ensures few { OnOk result ((¬ IsTold mode word j) → judged.new.items ≡ judged.old.items) }
+    ensures kept { OnOk result (IsKeptOrIrrelevant mode word j judged.old.items judged.new.items) }
+    ensures few { OnOk result ((¬ IsRelevant mode word j) → judged.new.items ≡ judged.old.items) }
     ensures err { OnErr result (judged.new.items ≡ judged.old.items) }
 {
-    if tells(mode, &j, word) {
+    if is_relevant(mode, &j, word) {
         // Field by field, since the prover makes no proof of a push of the whole.
         judged.push(Judged {
             path: j.path,

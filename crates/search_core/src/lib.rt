@@ -16,8 +16,8 @@ mod words;
 
 pub use answer::{Least, Sign};
 pub use fate::{Fate, Judged};
-pub use judging::{judge, judgement, keep, lowering_judgement, tells};
-pub use law::{at_most_one_fate, code_is_of_the_path, fate_is_of_the_path};
+pub use judging::{is_relevant, judge, judgement, keep, lowering_judgement};
+pub use law::{at_most_one_fate, code_is_of_the_path, fate_is_of_the_path, runs_are_fair};
 pub use searcher::Searcher;
 pub use settling::{settle_least, settle_least_part, settle_sign, settle_sign_part};
 pub use unimodular_cone::Mode;

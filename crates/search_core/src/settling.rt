@@ -3,7 +3,7 @@
 ghost use Rattle.std.specs.Prelude.{◌≤◌, ◌<◌};
 ghost use Rattle.symmetric_matrix.specs.Symmetric.{entry};
 ghost use Rattle.unimodular_cone.specs.Cones.{unit_vectors, Fits};
-ghost use Rattle.unimodular_cone.specs.Answer.{IsNarrow};
+ghost use Rattle.unimodular_cone.specs.Answer.{BoundFits};
 ghost use Rattle.search_core.specs.Fair.{IsFair, IsFairPart, IsEndFate};
 ghost use Rattle.search_core.specs.Answers.{IsLeastAnswer, IsSignAnswer};
 ghost use Rattle.search_core.specs.Ends.{IsEndOf, NamesEnd};
@@ -39,7 +39,7 @@ fn low_end(alloc: Global, mode: Mode, q: &SymInt, limit: u8, judged: &[Judged], 
     requires part { IsFairPart mode q.now.size (entry q.now) limit judged.now depth }
     requires limited { limit ≤ 200 }
     requires fits { Fits q.now.size (entry q.now) unit_vectors }
-    requires narrow { IsNarrow mode q.now.size (entry q.now) }
+    requires bound_fits { BoundFits mode q.now.size (entry q.now) }
     ensures { IsEndOf mode q.now.size (entry q.now) limit judged.now depth result }
 {
     let _n = q.n();
@@ -81,7 +81,7 @@ fn end_of(
     requires part { IsFairPart mode q.now.size (entry q.now) limit judged.now final_word }
     requires limited { limit ≤ 200 }
     requires fits { Fits q.now.size (entry q.now) unit_vectors }
-    requires narrow { IsNarrow mode q.now.size (entry q.now) }
+    requires bound_fits { BoundFits mode q.now.size (entry q.now) }
     ensures { IsEndOf mode q.now.size (entry q.now) limit judged.now final_word result }
 {
     if final_word < 256 {
@@ -106,7 +106,7 @@ pub fn settle_least_part(
     requires part { IsFairPart Mode.Least q.now.size (entry q.now) limit judged.now final_word }
     requires limited { limit ≤ 200 }
     requires fits { Fits q.now.size (entry q.now) unit_vectors }
-    requires narrow { IsNarrow Mode.Least q.now.size (entry q.now) }
+    requires bound_fits { BoundFits Mode.Least q.now.size (entry q.now) }
     ensures { IsLeastAnswer q.now.size (entry q.now) limit result }
 {
     match end_of(alloc, Mode::Least, q, limit, judged, final_word) {
@@ -130,7 +130,7 @@ fn found(alloc: Global, q: &SymInt, limit: u8, judged: &[Judged], final_word: u6
     requires part { IsFairPart Mode.Least q.now.size (entry q.now) limit judged.now final_word }
     requires limited { limit ≤ 200 }
     requires fits { Fits q.now.size (entry q.now) unit_vectors }
-    requires narrow { IsNarrow Mode.Least q.now.size (entry q.now) }
+    requires bound_fits { BoundFits Mode.Least q.now.size (entry q.now) }
     requires closed { IsEndOf Mode.Least q.now.size (entry q.now) limit judged.now final_word End.Closed }
     ensures { IsLeastAnswer q.now.size (entry q.now) limit result }
 {
@@ -187,7 +187,7 @@ pub fn settle_least(
     requires fair { IsFair Mode.Least q.now.size (entry q.now) limit judged.now final_word }
     requires limited { limit ≤ 200 }
     requires fits { Fits q.now.size (entry q.now) unit_vectors }
-    requires narrow { IsNarrow Mode.Least q.now.size (entry q.now) }
+    requires bound_fits { BoundFits Mode.Least q.now.size (entry q.now) }
     ensures { IsLeastAnswer q.now.size (entry q.now) limit result }
 {
     settle_least_part(alloc, q, limit, judged, final_word)

@@ -6,7 +6,7 @@
 ghost use Rattle.std.specs.Prelude.{◌≡◌, ◌≤◌, ◌<◌, ◌-◌, ◌^◌, ◌↔◌, IsTrue, nat_abs, pos};
 ghost use Rattle.symmetric_matrix.specs.Symmetric.{entry};
 ghost use Rattle.unimodular_cone.specs.Tree.{IsLowValue};
-ghost use Rattle.unimodular_cone.specs.Answer.{IsNarrow, IsLeastDiagonal};
+ghost use Rattle.unimodular_cone.specs.Answer.{BoundFits, IsLeastDiagonal};
 ghost use Rattle.search_core.specs.Fair.{start_of, start_word, code_of, bound_under};
 ghost use Rattle.search_core.specs.Judging.{shown_code, IsStartable};
 
@@ -52,7 +52,7 @@ fn start_of_least(mode: Mode, least: i128) -> u64
 /// The word before any cone is judged: 256 (Sign), or 256 plus the least diagonal entry, or 257 where that is at most 0
 /// (Least).
 pub fn start_word(mode: Mode, q: &SymInt) -> u64
-    requires { IsNarrow mode q.now.size (entry q.now) }
+    requires { BoundFits mode q.now.size (entry q.now) }
     ensures { result ≡ start_word mode q.now.size (entry q.now) }
 {
     start_of_least(mode, least_diagonal(q))

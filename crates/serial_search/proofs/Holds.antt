@@ -1,26 +1,20 @@
 -- What the answers say, and the answers at the root.
 use Rattle.std.specs.Prelude.{◌≢◌, ℕ, []}
-use Rattle.std.proofs.Common.{inl, subst}
+use Rattle.std.proofs.Common.{inl}
 use Rattle.exact_forms.specs.Forms.{IsSymmetric}
 use Rattle.unimodular_cone.specs.declared.Mode.{Mode}
 use Rattle.unimodular_cone.specs.declared.WideAt.{WideAt}
 use Rattle.unimodular_cone.specs.declared.ConeFail.{ConeFail}
 use Rattle.unimodular_cone.specs.declared.ConeFail.TheVariants.{Wide, OutOfMemory}
-use Rattle.unimodular_cone.specs.Cones.{Matrix, gram, cone_from, unit_vectors, Fits, FitsLimits}
-use Rattle.unimodular_cone.specs.Answer.{SearchAnswer, IsSearchAnswer, IsNarrow}
-use Rattle.unimodular_cone.specs.Shown.{ShownCone, shown_gram, shown_generators, IsWithinLimits, IsConeAt, IsFirstWideAt, IsWideWhere}
-use Rattle.unimodular_cone.proofs.LimitsSame.{fits_same}
+use Rattle.unimodular_cone.specs.Cones.{Matrix, cone_from}
+use Rattle.unimodular_cone.specs.Answer.{SearchAnswer, IsSearchAnswer, BoundFits}
+use Rattle.unimodular_cone.specs.Shown.{IsFirstWideAt, IsWideWhere}
 use Rattle.unimodular_cone.proofs.Minimum.{minimum_is, copositive_is, low_is}
 use Rattle.search_core.specs.declared.Least.{Least}
 use Rattle.search_core.specs.declared.Sign.{Sign}
 use Rattle.search_core.specs.Answers.{IsLeastAnswer, IsSignAnswer, LeastHolds, SignHolds}
 
-pub root_fits : (n : ℕ) (q : Matrix) (c : ShownCone) → IsConeAt n q [] c → IsWithinLimits c → Fits n q unit_vectors
-unfolding cone_from
-root_fits n q c at w = fits_same n (shown_generators c) unit_vectors (shown_gram c) (gram n q unit_vectors) (record { generators = at.cone.generators; gram_is = at.cone.gram_is })
-    (subst (λ (k : ℕ). FitsLimits k (shown_generators c) (shown_gram c)) at.cone.size w.fits)
-
-pub wide_at_root : (m : Mode) (n : ℕ) (q : Matrix) (d : ℕ) (at : WideAt) → IsNarrow m n q → IsFirstWideAt n q [] at → IsSearchAnswer m n q d (SearchAnswer.Wide at.path at.entry)
+pub wide_at_root : (m : Mode) (n : ℕ) (q : Matrix) (d : ℕ) (at : WideAt) → BoundFits m n q → IsFirstWideAt n q [] at → IsSearchAnswer m n q d (SearchAnswer.Wide at.path at.entry)
 unfolding cone_from
 wide_at_root m n q d at narrow w = inl (narrow, w.path_is, w.entry)
 

@@ -16,7 +16,7 @@ use Rattle.exact_forms.proofs.Vectors.{contains_cons, contains_here, contains_th
 use Rattle.search_core.specs.declared.Fate.{Fate}
 use Rattle.search_core.specs.declared.Fate.TheVariants.{Closed, Split, Low, Dropped, AtLimit, Wide}
 use Rattle.search_core.specs.declared.Judged.{Judged}
-use Rattle.search_core.specs.Fair.{code, start_word, bound_under, IsLowFate, IsEndFate, IsFate, IsUntold, IsKeptOrUntold, IsFair, IsFairPart}
+use Rattle.search_core.specs.Fair.{code, start_word, bound_under, IsLowFate, IsEndFate, IsFate, IsIrrelevant, IsKeptOrIrrelevant, IsFair, IsFairPart}
 use Rattle.search_core.specs.Judging.{shown_code, IsShownFate, IsJudgementOf}
 use Rattle.search_core.specs.Machine.{IsKept}
 use Rattle.search_core.proofs.ShownFates.{shown_code_at, shown_least_at, fate_at}
@@ -57,7 +57,7 @@ two_below d l s f le ne es ef = by (d - l) (omega arith) (omega arith) (omega ar
 -- every judgement that was not kept is one that no answer looks at
 pub record HasKept (m : Mode) (word : ℕ) (all kept : List Judged) : Type 0 where
   pub within : (j : Judged) → Contains kept j → Contains all j
-  pub rest : (j : Judged) → Contains all j → Contains kept j ⊎ IsUntold m word j
+  pub rest : (j : Judged) → Contains all j → Contains kept j ⊎ IsIrrelevant m word j
 
 pub record IsSearching (m : Mode) (n : ℕ) (q : Matrix) (d : ℕ) (stack : List ShownCone) (word : ℕ) (kept : List Judged) : Type 0 where
   pub all : List Judged
@@ -87,7 +87,7 @@ pub search_ends : (m : Mode) (n : ℕ) (q : Matrix) (d : ℕ) (stack : List Show
 search_ends m n q d stack word kept e h = record {
   all = h.all;
   fair = alone_end m n q d word h.all (subst (λ (s : List ShownCone). IsKept m n q d (alone (map path_of s) word h.all)) e h.state);
-  tells = record {
+  relevant = record {
     within = h.has.within;
     low = λ j c low. by_low j low (h.has.rest j c);
     ends = λ j c end. by_end j end (h.has.rest j c);
@@ -95,15 +95,15 @@ search_ends m n q d stack word kept e h = record {
   };
 }
   where
-    by_low : (j : Judged) → IsLowFate j.fate → (Contains kept j ⊎ IsUntold m word j) → Contains kept j
+    by_low : (j : Judged) → IsLowFate j.fate → (Contains kept j ⊎ IsIrrelevant m word j) → Contains kept j
     by_low j low (inl c) = c
     by_low j low (inr u) = absurd (u.not_low low)
 
-    by_end : (j : Judged) → IsEndFate j.fate → (Contains kept j ⊎ IsUntold m word j) → Contains kept j
+    by_end : (j : Judged) → IsEndFate j.fate → (Contains kept j ⊎ IsIrrelevant m word j) → Contains kept j
     by_end j end (inl c) = c
     by_end j end (inr u) = absurd (u.no_end end)
 
-    by_least : (j : Judged) → m ≡ Least → 256 ≤ word → j.least ≡ bound_under Least word → (Contains kept j ⊎ IsUntold m word j) → Contains kept j
+    by_least : (j : Judged) → m ≡ Least → 256 ≤ word → j.least ≡ bound_under Least word → (Contains kept j ⊎ IsIrrelevant m word j) → Contains kept j
     by_least j mode large least (inl c) = c
     by_least j mode large least (inr u) = absurd (let above : bound_under Least word <ℤ j.least = u.above mode large in less_self (bound_under Least word) (subst (λ (z : ℤ). bound_under Least word <ℤ z) least above))
       where
@@ -111,14 +111,14 @@ search_ends m n q d stack word kept e h = record {
         less_self z l = omega (arith, ints)
 
 -- ---- one turn
-untold_lower : (m : Mode) (word lower : ℕ) (j : Judged) → lower ≤ word → IsUntold m word j → IsUntold m lower j
+untold_lower : (m : Mode) (word lower : ℕ) (j : Judged) → lower ≤ word → IsIrrelevant m word j → IsIrrelevant m lower j
 untold_lower m word lower j le u = record { not_low = u.not_low; no_end = u.no_end; above = λ mode large. by (u.above mode (omega arith)) large }
   where
     by : bound_under Least word <ℤ j.least → 256 ≤ lower → bound_under Least lower <ℤ j.least
     by above large = omega (arith, ints)
 
 module _ (m : Mode) (n : ℕ) (q : Matrix) (d : ℕ) (stack front new : List ShownCone) (cone : ShownCone) (word : ℕ) (kept kept' : List Judged) (j : Judged) (some : 1 ≤ n) (h : IsSearching m n q d stack word kept)
-    (popped : IsOnTop cone front stack) (judged : IsJudgementOf m cone d (min word (shown_code m cone)) j) (stacks : AreStacked cone j.fate front new) (keeps : IsKeptOrUntold m (min word (shown_code m cone)) j kept kept') where
+    (popped : IsOnTop cone front stack) (judged : IsJudgementOf m cone d (min word (shown_code m cone)) j) (stacks : AreStacked cone j.fate front new) (keeps : IsKeptOrIrrelevant m (min word (shown_code m cone)) j kept kept') where
   on_top : Contains stack cone
   on_top = subst (λ (s : List ShownCone). Contains s cone) (sym popped) (Contains-push front cone)
 
@@ -183,7 +183,7 @@ module _ (m : Mode) (n : ℕ) (q : Matrix) (d : ℕ) (stack front new : List Sho
   lower : min word (shown_code m cone) ≤ word
   lower = omega arith
 
-  has_more : IsKeptOrUntold m (min word (shown_code m cone)) j kept kept' → HasKept m (min word (shown_code m cone)) (j ∷ h.all) kept'
+  has_more : IsKeptOrIrrelevant m (min word (shown_code m cone)) j kept kept' → HasKept m (min word (shown_code m cone)) (j ∷ h.all) kept'
   has_more (inl e) = subst (HasKept m (min word (shown_code m cone)) (j ∷ h.all)) (sym e) (record {
     within = λ k c. in_all k (Contains-push_cases kept j k c);
     rest = λ k c. told k (contains_cons j h.all k c);
@@ -193,11 +193,11 @@ module _ (m : Mode) (n : ℕ) (q : Matrix) (d : ℕ) (stack front new : List Sho
       in_all k (inl c) = contains_there j h.all k (h.has.within k c)
       in_all k (inr s) = subst (Contains (j ∷ h.all)) s (contains_here j h.all)
 
-      more : (k : Judged) → (Contains kept k ⊎ IsUntold m word k) → Contains (kept ++ j ∷ []) k ⊎ IsUntold m (min word (shown_code m cone)) k
+      more : (k : Judged) → (Contains kept k ⊎ IsIrrelevant m word k) → Contains (kept ++ j ∷ []) k ⊎ IsIrrelevant m (min word (shown_code m cone)) k
       more k (inl c) = inl (Contains-append_left kept (j ∷ []) k c)
       more k (inr u) = inr (untold_lower m word (min word (shown_code m cone)) k lower u)
 
-      told : (k : Judged) → ((j ≡ k) ⊎ Contains h.all k) → Contains (kept ++ j ∷ []) k ⊎ IsUntold m (min word (shown_code m cone)) k
+      told : (k : Judged) → ((j ≡ k) ⊎ Contains h.all k) → Contains (kept ++ j ∷ []) k ⊎ IsIrrelevant m (min word (shown_code m cone)) k
       told k (inl s) = inl (subst (Contains (kept ++ j ∷ [])) s (Contains-push kept j))
       told k (inr c) = more k (h.has.rest k c)
   has_more (inr (e, untold)) = subst (HasKept m (min word (shown_code m cone)) (j ∷ h.all)) (sym e) (record {
@@ -205,12 +205,12 @@ module _ (m : Mode) (n : ℕ) (q : Matrix) (d : ℕ) (stack front new : List Sho
     rest = λ k c. told k (contains_cons j h.all k c);
   })
     where
-      more : (k : Judged) → (Contains kept k ⊎ IsUntold m word k) → Contains kept k ⊎ IsUntold m (min word (shown_code m cone)) k
+      more : (k : Judged) → (Contains kept k ⊎ IsIrrelevant m word k) → Contains kept k ⊎ IsIrrelevant m (min word (shown_code m cone)) k
       more k (inl c) = inl c
       more k (inr u) = inr (untold_lower m word (min word (shown_code m cone)) k lower u)
 
-      told : (k : Judged) → ((j ≡ k) ⊎ Contains h.all k) → Contains kept k ⊎ IsUntold m (min word (shown_code m cone)) k
-      told k (inl s) = inr (subst (IsUntold m (min word (shown_code m cone))) s untold)
+      told : (k : Judged) → ((j ≡ k) ⊎ Contains h.all k) → Contains kept k ⊎ IsIrrelevant m (min word (shown_code m cone)) k
+      told k (inl s) = inr (subst (IsIrrelevant m (min word (shown_code m cone))) s untold)
       told k (inr c) = more k (h.has.rest k c)
 
   pub search_turns : IsSearching m n q d new (min word (shown_code m cone)) kept'

@@ -1,7 +1,7 @@
 -- One turn of a search with a stack of cones, the last one on top.
 --
 --     IsOnTop c rest stack        the stack is c on top of the rest
---     CanSplit c i j              (i, j) is the pair of c, both children fit, and c is above depth 200
+--     IsSplitPair c i j           (i, j) is the pair of c, both children fit, and c is above depth 200
 --     SplitsAt c fate             where the fate is Split: c can split so
 --     AreChildrenOn c i j rest new   new is the rest with the two children of c on top, child 0 last
 --     AreStacked c fate rest new  new is the rest, with the children of a Split on top, child 0 last
@@ -15,11 +15,11 @@ use Rattle.search_core.specs.declared.Fate.TheVariants.{Closed, Split, Low, Drop
 abbrev pub IsOnTop : ShownCone → List ShownCone → List ShownCone → Type 0
 IsOnTop c rest stack = stack ≡ rest ++ c ∷ []
 
-abbrev pub CanSplit : ShownCone → ℕ → ℕ → Type 0
-CanSplit c i j = NamesPair c (Some (i, j)) × FitsOnBothSides c (i - 1) (j - 1) × (length c.path < 200)
+abbrev pub IsSplitPair : ShownCone → ℕ → ℕ → Type 0
+IsSplitPair c i j = NamesPair c (Some (i, j)) × FitsOnBothSides c (i - 1) (j - 1) × (length c.path < 200)
 
 abbrev pub SplitsAt : ShownCone → Fate → Type 0
-SplitsAt c (Split i j w) = CanSplit c i j
+SplitsAt c (Split i j w) = IsSplitPair c i j
 SplitsAt c (Closed w) = Unit {0}
 SplitsAt c (Low k) = Unit {0}
 SplitsAt c (Dropped w) = Unit {0}
@@ -43,7 +43,7 @@ AreStacked c (Wide w at) rest new = new ≡ rest
 
 -- ---- the cone on top of a stack
 abbrev pub CanSplitTop : List ShownCone → ℕ → ℕ → Type 0
-CanSplitTop stack i j = (c : ShownCone) (rest : List ShownCone) → IsOnTop c rest stack → CanSplit c i j
+CanSplitTop stack i j = (c : ShownCone) (rest : List ShownCone) → IsOnTop c rest stack → IsSplitPair c i j
 
 abbrev pub TopSplits : Fate → List ShownCone → Type 0
 TopSplits fate stack = (c : ShownCone) (rest : List ShownCone) → IsOnTop c rest stack → SplitsAt c fate

@@ -2,7 +2,7 @@
 
 ghost use Rattle.std.specs.Prelude.{◌≤◌, [], IfOk};
 ghost use Rattle.symmetric_matrix.specs.Symmetric.{entry};
-ghost use Rattle.unimodular_cone.specs.Answer.{IsNarrow};
+ghost use Rattle.unimodular_cone.specs.Answer.{BoundFits};
 ghost use Rattle.unimodular_cone.specs.Shown.{IsConeAt};
 ghost use Rattle.search_core.specs.Fair.{IsFair};
 
@@ -23,7 +23,7 @@ fn every_judgement(
 ) -> Result<Judgements, AllocError>
     requires limited { limit ≤ 200 }
     requires root { IsConeAt q.now.size (entry q.now) [] root }
-    requires narrow { IsNarrow mode q.now.size (entry q.now) }
+    requires bound_fits { BoundFits mode q.now.size (entry q.now) }
     ensures { IfOk result (λ r. IsFair mode q.now.size (entry q.now) limit r.judged.items r.final_word) }
 {
     let _n = q.n();
@@ -58,7 +58,7 @@ pub fn plain_least(alloc: Global, q: &SymInt, limit: u8) -> Option<Least>
 /// The same of a matrix whose least diagonal entry is at most 2^63 - 1.
 fn least_of_all(alloc: Global, q: &SymInt, limit: u8) -> Option<Least>
     requires limited { limit ≤ 200 }
-    requires narrow { IsNarrow Mode.Least q.now.size (entry q.now) }
+    requires bound_fits { BoundFits Mode.Least q.now.size (entry q.now) }
 {
     match root(q) {
         Ok(cone) => match every_judgement(alloc, Mode::Least, q, limit, cone) {

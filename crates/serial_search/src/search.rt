@@ -3,7 +3,7 @@
 
 ghost use Rattle.std.specs.Prelude.{◌≤◌, ◌<◌, [], IfOk, OnOk, vec_len};
 ghost use Rattle.symmetric_matrix.specs.Symmetric.{entry};
-ghost use Rattle.unimodular_cone.specs.Answer.{IsNarrow};
+ghost use Rattle.unimodular_cone.specs.Answer.{BoundFits};
 ghost use Rattle.unimodular_cone.specs.Shown.{IsConeAt};
 ghost use Rattle.search_core.specs.Fair.{IsFairPart};
 ghost use Rattle.serial_search.specs.Turns.{CanSplitTop, IsTopSplit, TopSplits, IsTopTurned};
@@ -13,7 +13,7 @@ use std::alloc::{AllocError, Global};
 use symmetric_matrix::SymInt;
 use unimodular_cone::{Cone, Mode};
 
-/// What was judged, of all that tells, and the final word.
+/// What was judged, of all that is relevant, and the final word.
 #[derive(Drop)]
 pub struct Judgements {
     /// The judgements.
@@ -59,7 +59,7 @@ pub fn search(
     root: Cone,
 ) -> Result<Judgements, AllocError>
     requires limited { limit ≤ 200 }
-    requires narrow { IsNarrow mode q.now.size (entry q.now) }
+    requires bound_fits { BoundFits mode q.now.size (entry q.now) }
     requires root { IsConeAt q.now.size (entry q.now) [] root }
     ensures { IfOk result (λ r. IsFairPart mode q.now.size (entry q.now) limit r.judged.items r.final_word) }
 {

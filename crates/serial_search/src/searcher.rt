@@ -2,7 +2,7 @@
 
 ghost use Rattle.std.specs.Prelude.{◌≡◌, ◌≢◌, ◌≤◌, ◌<◌, ◌^◌, ◌-◌, ◌<ℤ◌, pos, MatchOption};
 ghost use Rattle.symmetric_matrix.specs.Symmetric.{entry};
-ghost use Rattle.unimodular_cone.specs.Answer.{IsNarrow, IsLeastDiagonal};
+ghost use Rattle.unimodular_cone.specs.Answer.{BoundFits, IsLeastDiagonal};
 ghost use Rattle.unimodular_cone.specs.declared.ConeFail.TheVariants.{Wide, OutOfMemory};
 ghost use Rattle.search_core.specs.Answers.{IsLeastAnswer, IsSignAnswer};
 
@@ -40,7 +40,7 @@ impl Searcher for SerialSearcher {
 
 /// The least diagonal entry, where it is over 2^63 - 1.
 pub(crate) fn bound_wide(q: &SymInt) -> Option<i128>
-    ensures { MatchOption result (IsNarrow Mode.Least q.now.size (entry q.now)) (λ z. IsLeastDiagonal q.now.size (entry q.now) z × (pos (2 ^ 63 - 1) <ℤ z)) }
+    ensures { MatchOption result (BoundFits Mode.Least q.now.size (entry q.now)) (λ z. IsLeastDiagonal q.now.size (entry q.now) z × (pos (2 ^ 63 - 1) <ℤ z)) }
 {
     let least = least_diagonal(q);
     if least > (1 << 63) - 1 {
@@ -64,7 +64,7 @@ fn wide_entry(fail: ConeFail) -> WideAt
 /// The least value of a matrix whose least diagonal entry is at most 2^63 - 1.
 fn least_within(alloc: Global, q: &SymInt, limit: u8) -> Least
     requires limited { limit ≤ 200 }
-    requires narrow { IsNarrow Mode.Least q.now.size (entry q.now) }
+    requires bound_fits { BoundFits Mode.Least q.now.size (entry q.now) }
     ensures { IsLeastAnswer q.now.size (entry q.now) limit result }
 {
     match root(q) {

@@ -12,7 +12,7 @@ use Rattle.commutative_ring.proofs.Gcd.{gcd_of_is, gcd_of_scaled, gcd_of-step, g
 use Rattle.commutative_ring.proofs.Coprime.{gcd_comm, coprime-dvd, coprime-mul_right}
 
 -- a number of k digits is an odd part times the power of two of its trailing zeros
-pub record IsSplit (k n t : ℕ) : Type 0 where
+pub record IsOddPart (k n t : ℕ) : Type 0 where
   pub odd : n / 2 ^ t % 2 ≡ 1
   pub whole : n / 2 ^ t * 2 ^ t ≡ n
   pub within : t < k
@@ -29,21 +29,21 @@ over_more n t = let e : suc t ≡ 1 + t = omega arith in ap (λ m. n / 2 ^ m) e 
 halved : (n k : ℕ) → n < 2 ^ suc k → n / 2 < 2 ^ k
 halved n k h = omega (arith, pow-suc 2 k)
 
-split_more : (k n t : ℕ) → n % 2 ≡ 0 → IsSplit k (n / 2) t → IsSplit (suc k) n (suc t)
+split_more : (k n t : ℕ) → n % 2 ≡ 0 → IsOddPart k (n / 2) t → IsOddPart (suc k) n (suc t)
 split_more k n t e s = record {
   odd = rw (over_more n t) s.odd;
   whole = rw (over_more n t, pow-suc 2 t) (sym (mul_assoc (n / 2 / 2 ^ t) (2 ^ t) 2) ∙ ap (λ m. m * 2) s.whole ∙ (omega arith));
   within = (let w = s.within in omega arith);
 }
 
-pub trailing_split : (k n : ℕ) → 0 < n → n < 2 ^ k → IsSplit k n (count_trailing_zeros k n)
+pub trailing_split : (k n : ℕ) → 0 < n → n < 2 ^ k → IsOddPart k n (count_trailing_zeros k n)
 unfolding count_trailing_zeros
 trailing_split zero n p h = absurd (omega arith)
 trailing_split (suc k) n p h = by (bit_cases n) (λ e. trailing_split k (n / 2) (omega arith) (halved n k h))
   where
-    by : ((n % 2 ≡ 0) ⊎ (n % 2 ≡ 1)) → (n % 2 ≡ 0 → IsSplit k (n / 2) (count_trailing_zeros k (n / 2))) → IsSplit (suc k) n (under (n % 2) (count_trailing_zeros k (n / 2)))
-    by (inl e) rec = subst (λ d. IsSplit (suc k) n (under d (count_trailing_zeros k (n / 2)))) (sym e) (split_more k n (count_trailing_zeros k (n / 2)) e (rec e))
-    by (inr e) rec = subst (λ d. IsSplit (suc k) n (under d (count_trailing_zeros k (n / 2)))) (sym e) (record { odd = ap (λ m. m % 2) (over_one n) ∙ e; whole = (omega arith); within = (omega arith) })
+    by : ((n % 2 ≡ 0) ⊎ (n % 2 ≡ 1)) → (n % 2 ≡ 0 → IsOddPart k (n / 2) (count_trailing_zeros k (n / 2))) → IsOddPart (suc k) n (under (n % 2) (count_trailing_zeros k (n / 2)))
+    by (inl e) rec = subst (λ d. IsOddPart (suc k) n (under d (count_trailing_zeros k (n / 2)))) (sym e) (split_more k n (count_trailing_zeros k (n / 2)) e (rec e))
+    by (inr e) rec = subst (λ d. IsOddPart (suc k) n (under d (count_trailing_zeros k (n / 2)))) (sym e) (record { odd = ap (λ m. m % 2) (over_one n) ∙ e; whole = (omega arith); within = (omega arith) })
 
 pub gcd_of_one : (a : ℕ) → gcd_of a 1 ≡ 1
 unfolding gcd_of gcd_steps
@@ -123,7 +123,7 @@ step a b oa ob ha hb ne = by (cases a b ne)
     less a b ob ha lt =
         let gap : ℕ = a - b in
         let t : ℕ = count_trailing_zeros 64 gap in
-        let s : IsSplit 64 gap t = trailing_split 64 gap (omega arith) (omega arith) in
+        let s : IsOddPart 64 gap t = trailing_split 64 gap (omega arith) (omega arith) in
         let small : gap / 2 ^ t ≤ gap = quotient_le gap t s.whole in (
           s.odd,
           sym (gap_left a b (omega arith)) ∙ gcd_comm gap b ∙ ap (λ n. gcd_of b n) (sym s.whole) ∙ odd_divisor b (gap / 2 ^ t) t ob ∙ gcd_comm b (gap / 2 ^ t),
@@ -148,8 +148,8 @@ pub shifted_back : (a b : ℕ) → 0 < a → 0 < b → a < 2 ^ 64 → b < 2 ^ 64
 shifted_back a b pa pb ha hb =
     let i : ℕ = count_trailing_zeros 64 a in
     let j : ℕ = count_trailing_zeros 64 b in
-    let s : IsSplit 64 a i = trailing_split 64 a pa ha in
-    let t : IsSplit 64 b j = trailing_split 64 b pb hb in
+    let s : IsOddPart 64 a i = trailing_split 64 a pa ha in
+    let t : IsOddPart 64 b j = trailing_split 64 b pb hb in
     let back : gcd_of (a / 2 ^ i) (b / 2 ^ j) * 2 ^ min i j ≡ gcd_of a b =
     sym (twos_shared (a / 2 ^ i) (b / 2 ^ j) i j s.odd t.odd) ∙ ap₂ gcd_of s.whole t.whole in
     let small : gcd_of a b < 2 ^ 64 = lt_of_le_of_lt (gcd_of-le_left a b pa) ha in

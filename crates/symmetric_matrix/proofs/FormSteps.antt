@@ -1,6 +1,7 @@
 -- The steps of forms and inner products over a lower triangle.
-use Rattle.std.specs.Prelude.{◌≡◌, ℕ, ◌+◌, ◌*◌, ◌^◌, ◌<◌, ◌≤◌, nat_eq, if◌then◌else◌, Bool, true, false, ℤ, pos, ◌+ℤ◌, ◌*ℤ◌, List, [], ◌∷◌, length, map, drop, slice_index_or, Ok, Err}
+use Rattle.std.specs.Prelude.{◌≡◌, ℕ, ◌+◌, ◌*◌, ◌^◌, ◌<◌, ◌≤◌, ◌-◌, nat_eq, nat_lt, nat_abs, if◌then◌else◌, Bool, true, false, ℤ, pos, ◌+ℤ◌, ◌*ℤ◌, List, [], ◌∷◌, ◌++◌, length, map, drop, slice_index_or, Some, None, Ok, Err}
 use Rattle.std.proofs.Common.{arith, sym, ◌∙◌, ap, ap₂, refl, mul-le-mul}
+use Rattle.std.proofs.lemmas.Bool.Decides.{nat_tests}
 use Rattle.std.proofs.lemmas.Int.{to_z_pos}
 use Rattle.std.proofs.lemmas.List.{length-map, get_or-map}
 use mir.Val.{to_z}
@@ -12,14 +13,15 @@ use Rattle.exact_forms.specs.Vectors.{coordinate}
 use Rattle.exact_forms.proofs.Forms.{bilinear_is}
 use Rattle.exact_forms.proofs.Triangles.{triangle_more, row_before}
 use Rattle.symmetric_matrix.specs.declared.operation.IntOp.{IntOp}
-use Rattle.symmetric_matrix.specs.Owed.{answer}
-use Rattle.symmetric_matrix.specs.Operations.{is_owed, mul_op, add_op}
-use Rattle.symmetric_matrix.specs.Symmetric.{Symmetric, entry}
-use Rattle.symmetric_matrix.specs.Recipes.{triangle_places, multiplicity, Product, product_ops, form_product, form_ops}
-use Rattle.symmetric_matrix.proofs.Places.{entry_at, entry_flip}
+use Rattle.symmetric_matrix.specs.Owed.{answer, first_owed}
+use Rattle.symmetric_matrix.specs.Operations.{is_owed, exact_result, mul_op, add_op}
+use Rattle.symmetric_matrix.specs.Symmetric.{Symmetric, FitsInt, entry}
+use Rattle.symmetric_matrix.specs.Recipes.{triangle_places, multiplicity, Product, product_ops, sum_ops, form_product, form_ops}
+use Rattle.symmetric_matrix.proofs.Owed.{none_of_ok}
+use Rattle.symmetric_matrix.proofs.Places.{entry_lower, entry_flip}
 use Rattle.symmetric_matrix.proofs.TrianglePlaces.{place, length-triangle_places, triangle_place_at, sum_by_places}
 use Rattle.symmetric_matrix.proofs.Telescopes.{list_sum, list_sum_same}
-use Rattle.symmetric_matrix.proofs.Recipes.{product_of, sum_answer, sum_refused, sum_continues, sum_ends, sum_answer_is}
+use Rattle.symmetric_matrix.proofs.Recipes.{product_of, sum_from, sum_answer, sum_refused, sum_continues, sum_ends, sum_answer_is}
 
 -- ---- places in order
 pub in_row : (n i j k : ℕ) → k ≡ triangle i + j → k < triangle n → i < n
@@ -28,8 +30,8 @@ in_row n i j k e h = row_before i j n (omega arith)
 pub next_in_row : (i j k : ℕ) → k ≡ triangle i + j → k + 1 ≡ triangle i + (j + 1)
 next_in_row i j k e = omega arith
 
-pub next_row : (i j k : ℕ) → k ≡ triangle i + j → j ≤ i → i ≤ j → k + 1 ≡ triangle (i + 1) + 0
-next_row i j k e h l = omega (arith, triangle_more i)
+pub next_row_begins : (i j k : ℕ) → k ≡ triangle i + j → j ≤ i → i ≤ j → k + 1 ≡ triangle (i + 1) + 0
+next_row_begins i j k e h l = omega (arith, triangle_more i)
 
 -- ---- the weight fits
 pub weight_fits : (x : List ℕ) (i j t a b : ℕ) → a ≡ slice_index_or x i 0 → b ≡ slice_index_or x j 0 → slice_index_or x i 0 ≤ 2 ^ 62 → slice_index_or x j 0 ≤ 2 ^ 62
@@ -46,18 +48,18 @@ weight_fits x i j t a b ea eb sa sb et =
     at_most_two false = omega arith
 
 -- ---- a form
-abbrev pub matrix_of : ℕ → List ℤ → Symmetric
-matrix_of n lower = record { size = n; lower = lower }
+abbrev pub symmetric_of : ℕ → List ℤ → Symmetric
+symmetric_of n lower = record { size = n; lower = lower }
 
 pub form_products : List ℕ → List ℤ → List Product
-form_products x lower = map (form_product (matrix_of (length x) lower) x) (triangle_places (length x))
+form_products x lower = map (form_product (symmetric_of (length x) lower) x) (triangle_places (length x))
 
 plain_product : ℤ → ℤ → Product
 plain_product q w = record { before = []; left = q; right = w }
 
 pub length-form_products : (x : List ℕ) (lower : List ℤ) → length (form_products x lower) ≡ triangle (length x)
 unfolding form_products
-length-form_products x lower = length-map (triangle_places (length x)) (form_product (matrix_of (length x) lower) x) ∙ length-triangle_places (length x)
+length-form_products x lower = length-map (triangle_places (length x)) (form_product (symmetric_of (length x) lower) x) ∙ length-triangle_places (length x)
 
 form_product_at : (x : List ℕ) (lower : List ℤ) (k i j : ℕ) (q w : ℤ) (d : Product) → length lower ≡ triangle (length x) → k ≡ triangle i + j → j ≤ i → k < length lower
     → q ≡ slice_index_or lower k (pos 0) → w ≡ pos (multiplicity (record { row = i; column = j }) * (slice_index_or x i 0 * slice_index_or x j 0))
@@ -66,10 +68,10 @@ unfolding form_products form_product plain_product
 form_product_at x lower k i j q w d long e h l is_q is_w =
     let n : ℕ = length x in
     let row : i < length x = in_row (length x) i j k e (omega arith) in
-    get_or-map (form_product (matrix_of (length x) lower) x) (triangle_places (length x)) k (place 0 0) d (omega (arith, length-triangle_places (length x)))
-    ∙ ap (form_product (matrix_of (length x) lower) x) (ap (λ (k : ℕ). slice_index_or (triangle_places (length x)) k (place 0 0)) e ∙ triangle_place_at (length x) i j (place 0 0) row h)
+    get_or-map (form_product (symmetric_of (length x) lower) x) (triangle_places (length x)) k (place 0 0) d (omega (arith, length-triangle_places (length x)))
+    ∙ ap (form_product (symmetric_of (length x) lower) x) (ap (λ (k : ℕ). slice_index_or (triangle_places (length x)) k (place 0 0)) e ∙ triangle_place_at (length x) i j (place 0 0) row h)
     ∙ ap₂ (λ (a : ℤ) (b : ℤ). plain_product a b)
-    (entry_at (matrix_of (length x) lower) i j h ∙ ap (λ (k : ℕ). slice_index_or lower k (pos 0)) (sym e) ∙ sym is_q)
+    (entry_lower (symmetric_of (length x) lower) i j h ∙ ap (λ (k : ℕ). slice_index_or lower k (pos 0)) (sym e) ∙ sym is_q)
     (sym is_w)
 
 plain_ops : (s q w : ℤ) → product_ops s (plain_product q w) ≡ mul_op q w ∷ add_op s (q *ℤ w) ∷ []
@@ -104,16 +106,16 @@ unfolding list_sum
 list_sum_of_map f [] = refl
 list_sum_of_map f (x ∷ xs) = ap (λ (z : ℤ). product_of (f x) +ℤ z) (list_sum_of_map f xs)
 
-form_value : (x : List ℕ) (lower : List ℤ) → list_sum int_ring product_of (form_products x lower) ≡ form (length x) (entry (matrix_of (length x) lower)) (coordinate x)
+form_value : (x : List ℕ) (lower : List ℤ) → list_sum int_ring product_of (form_products x lower) ≡ form (length x) (entry (symmetric_of (length x) lower)) (coordinate x)
 unfolding form_products form_product
 form_value x lower =
-    let q : Symmetric = matrix_of (length x) lower in
-    let g : ℕ → ℕ → ℤ = λ (i : ℕ) (j : ℕ). entry (matrix_of (length x) lower) i j *ℤ (coordinate x i *ℤ coordinate x j) in
-    list_sum_of_map (form_product (matrix_of (length x) lower) x) (triangle_places (length x))
+    let q : Symmetric = symmetric_of (length x) lower in
+    let g : ℕ → ℕ → ℤ = λ (i : ℕ) (j : ℕ). entry (symmetric_of (length x) lower) i j *ℤ (coordinate x i *ℤ coordinate x j) in
+    list_sum_of_map (form_product (symmetric_of (length x) lower) x) (triangle_places (length x))
     ∙ list_sum_same int_ring _ (λ p. pos (multiplicity p) *ℤ g p.row p.column) (triangle_places (length x))
-    (λ p. moved (entry (matrix_of (length x) lower) p.row p.column) (multiplicity p) (slice_index_or x p.row 0) (slice_index_or x p.column 0))
-    ∙ sum_by_places (length x) g (λ i j hi hj. flipped (entry (matrix_of (length x) lower) i j) (entry (matrix_of (length x) lower) j i) (coordinate x i) (coordinate x j) (entry_flip (matrix_of (length x) lower) i j))
-    ∙ sym (bilinear_is (length x) (entry (matrix_of (length x) lower)) (coordinate x) (coordinate x))
+    (λ p. moved (entry (symmetric_of (length x) lower) p.row p.column) (multiplicity p) (slice_index_or x p.row 0) (slice_index_or x p.column 0))
+    ∙ sum_by_places (length x) g (λ i j hi hj. flipped (entry (symmetric_of (length x) lower) i j) (entry (symmetric_of (length x) lower) j i) (coordinate x i) (coordinate x j) (entry_flip (symmetric_of (length x) lower) i j))
+    ∙ sym (bilinear_is (length x) (entry (symmetric_of (length x) lower)) (coordinate x) (coordinate x))
   where
     moved : (q : ℤ) (m a b : ℕ) → q *ℤ pos (m * (a * b)) ≡ pos m *ℤ (q *ℤ (pos a *ℤ pos b))
     moved q m a b = ring (q ∷ pos m ∷ pos a ∷ pos b ∷ []) (v0 ⊗ (v1 ⊗ (v2 ⊗ v3))) (v1 ⊗ (v0 ⊗ (v2 ⊗ v3))) refl
@@ -122,6 +124,44 @@ form_value x lower =
     flipped p q a b e = ap (λ (p : ℤ). p *ℤ (a *ℤ b)) e ∙ ring (q ∷ a ∷ b ∷ []) (v0 ⊗ (v1 ⊗ v2)) (v0 ⊗ (v2 ⊗ v1)) refl
 
 pub form_answer_is : (x : List ℕ) (lower : List ℤ)
-    → sum_answer (form_products x lower) (pos 0) ≡ answer is_owed (form_ops (matrix_of (length x) lower) x) (form (length x) (entry (matrix_of (length x) lower)) (coordinate x))
+    → sum_answer (form_products x lower) (pos 0) ≡ answer is_owed (form_ops (symmetric_of (length x) lower) x) (form (length x) (entry (symmetric_of (length x) lower)) (coordinate x))
 unfolding form_products form_ops
-form_answer_is x lower = sum_answer_is (form_products x lower) (form (length x) (entry (matrix_of (length x) lower)) (coordinate x)) (form_value x lower)
+form_answer_is x lower = sum_answer_is (form_products x lower) (form (length x) (entry (symmetric_of (length x) lower)) (coordinate x)) (form_value x lower)
+
+-- ---- what is answered fits
+both_fit : (xs ys : List IntOp) → first_owed is_owed (xs ++ ys) ≡ None → (first_owed is_owed xs ≡ None) × (first_owed is_owed ys ≡ None)
+unfolding first_owed
+both_fit [] ys h = (refl, h)
+both_fit (x ∷ xs) ys h = by (is_owed x) h (both_fit xs ys)
+  where
+    by : (b : Bool) → (if b then Some x else first_owed is_owed (xs ++ ys)) ≡ None → (first_owed is_owed (xs ++ ys) ≡ None → (first_owed is_owed xs ≡ None) × (first_owed is_owed ys ≡ None))
+        → ((if b then Some x else first_owed is_owed xs) ≡ None) × (first_owed is_owed ys ≡ None)
+    by true h rec = absurd cc
+    by false h rec = rec h
+
+one_fits : (op : IntOp) → first_owed is_owed (op ∷ []) ≡ None → nat_abs (exact_result op) ≤ 2 ^ 127 - 1
+unfolding first_owed
+one_fits op h = by (is_owed op) refl h
+  where
+    within : (n : ℕ) → nat_lt (2 ^ 127 - 1) n ≡ false → n ≤ 2 ^ 127 - 1
+    within n h = grind (arith, nat_tests)
+
+    by : (b : Bool) → is_owed op ≡ b → (if b then Some op else None) ≡ None → nat_abs (exact_result op) ≤ 2 ^ 127 - 1
+    by true e h = absurd cc
+    by false e h = within (nat_abs (exact_result op)) e
+
+pub sum_fits : (products : List Product) (s : ℤ) → FitsInt s → first_owed is_owed (sum_ops products s) ≡ None → FitsInt (sum_from products s)
+unfolding sum_ops sum_from product_ops
+sum_fits [] s fits h = fits
+sum_fits (p ∷ rest) s fits h =
+    let parts = both_fit (p.before ++ (mul_op p.left p.right ∷ add_op s (p.left *ℤ p.right) ∷ [])) (sum_ops rest (s +ℤ p.left *ℤ p.right)) h in
+    let last = both_fit (mul_op p.left p.right ∷ []) (add_op s (p.left *ℤ p.right) ∷ []) (both_fit p.before (mul_op p.left p.right ∷ add_op s (p.left *ℤ p.right) ∷ []) parts.0).1 in
+    sum_fits rest (s +ℤ p.left *ℤ p.right) (one_fits (add_op s (p.left *ℤ p.right)) last.1) parts.1
+
+-- the value of a form of which no operation is owed fits
+pub form_fits : (q : Symmetric) (x : List ℕ) (z : ℤ) → length x ≡ q.size → answer is_owed (form_ops q x) (form q.size (entry q) (coordinate x)) ≡ Ok z → FitsInt z
+unfolding sum_answer
+form_fits q x z size h =
+    let e = ap (λ (n : ℕ). answer is_owed (form_ops (symmetric_of n q.lower) x) (form n (entry (symmetric_of n q.lower)) (coordinate x))) size ∙ h in
+    let made = none_of_ok is_owed (sum_ops (form_products x q.lower) (pos 0)) (sum_from (form_products x q.lower) (pos 0)) z (form_answer_is x q.lower ∙ e) in
+    rw (← made.1) (sum_fits (form_products x q.lower) (pos 0) (omega arith) made.0)

@@ -11,21 +11,21 @@ use Rattle.symmetric_matrix.specs.Owed.{answer}
 use Rattle.symmetric_matrix.specs.Operations.{is_owed, mul_op, add_op}
 use Rattle.symmetric_matrix.specs.Symmetric.{entry}
 use Rattle.symmetric_matrix.specs.Recipes.{triangle_places, multiplicity, Product, product_ops, inner_product, inner_ops}
-use Rattle.symmetric_matrix.proofs.Places.{entry_at, entry_flip}
+use Rattle.symmetric_matrix.proofs.Places.{entry_lower, entry_flip}
 use Rattle.symmetric_matrix.proofs.TrianglePlaces.{place, length-triangle_places, triangle_place_at, sum_by_places}
 use Rattle.symmetric_matrix.proofs.Telescopes.{list_sum, list_sum_same}
 use Rattle.symmetric_matrix.proofs.Recipes.{product_of, sum_answer, sum_refused, sum_continues, sum_ends, sum_answer_is}
-use Rattle.symmetric_matrix.proofs.FormSteps.{matrix_of, in_row, list_sum_of_map}
+use Rattle.symmetric_matrix.proofs.FormSteps.{symmetric_of, in_row, list_sum_of_map}
 
 pub inner_products : ℕ → List ℤ → List ℤ → List Product
-inner_products n lower other = map (inner_product (matrix_of n lower) (matrix_of n other)) (triangle_places n)
+inner_products n lower other = map (inner_product (symmetric_of n lower) (symmetric_of n other)) (triangle_places n)
 
 multiple : ℤ → ℤ → ℤ → Product
 multiple q m t = record { before = mul_op m t ∷ []; left = q; right = m *ℤ t }
 
 pub length-inner_products : (n : ℕ) (lower other : List ℤ) → length (inner_products n lower other) ≡ triangle n
 unfolding inner_products
-length-inner_products n lower other = length-map (triangle_places n) (inner_product (matrix_of n lower) (matrix_of n other)) ∙ length-triangle_places n
+length-inner_products n lower other = length-map (triangle_places n) (inner_product (symmetric_of n lower) (symmetric_of n other)) ∙ length-triangle_places n
 
 inner_product_at : (n : ℕ) (lower other : List ℤ) (k i j : ℕ) (q m t : ℤ) (d : Product) → length lower ≡ triangle n → k ≡ triangle i + j → j ≤ i → k < length lower
     → q ≡ slice_index_or lower k (pos 0) → t ≡ slice_index_or other k (pos 0) → m ≡ pos (multiplicity (record { row = i; column = j }))
@@ -33,11 +33,11 @@ inner_product_at : (n : ℕ) (lower other : List ℤ) (k i j : ℕ) (q m t : ℤ
 unfolding inner_products inner_product multiple
 inner_product_at n lower other k i j q m t d long e h l is_q is_t is_m =
     let row : i < n = in_row n i j k e (omega arith) in
-    get_or-map (inner_product (matrix_of n lower) (matrix_of n other)) (triangle_places n) k (place 0 0) d (omega (arith, length-triangle_places n))
-    ∙ ap (inner_product (matrix_of n lower) (matrix_of n other)) (ap (λ (k : ℕ). slice_index_or (triangle_places n) k (place 0 0)) e ∙ triangle_place_at n i j (place 0 0) row h)
+    get_or-map (inner_product (symmetric_of n lower) (symmetric_of n other)) (triangle_places n) k (place 0 0) d (omega (arith, length-triangle_places n))
+    ∙ ap (inner_product (symmetric_of n lower) (symmetric_of n other)) (ap (λ (k : ℕ). slice_index_or (triangle_places n) k (place 0 0)) e ∙ triangle_place_at n i j (place 0 0) row h)
     ∙ ap₂ (λ (a : ℤ) (b : ℤ). multiple a (pos (multiplicity (place i j))) b)
-    (entry_at (matrix_of n lower) i j h ∙ ap (λ (k : ℕ). slice_index_or lower k (pos 0)) (sym e) ∙ sym is_q)
-    (entry_at (matrix_of n other) i j h ∙ ap (λ (k : ℕ). slice_index_or other k (pos 0)) (sym e) ∙ sym is_t)
+    (entry_lower (symmetric_of n lower) i j h ∙ ap (λ (k : ℕ). slice_index_or lower k (pos 0)) (sym e) ∙ sym is_q)
+    (entry_lower (symmetric_of n other) i j h ∙ ap (λ (k : ℕ). slice_index_or other k (pos 0)) (sym e) ∙ sym is_t)
     ∙ ap (λ (m : ℤ). multiple q m t) (sym is_m)
 
 multiple_ops : (s q m t : ℤ) → product_ops s (multiple q m t) ≡ mul_op m t ∷ mul_op q (m *ℤ t) ∷ add_op s (q *ℤ (m *ℤ t)) ∷ []
@@ -68,20 +68,20 @@ pub inner_ends : (n : ℕ) (lower other : List ℤ) (k : ℕ) (s : ℤ) → leng
 inner_ends n lower other k s long h = sum_ends (inner_products n lower other) k s (omega (arith, length-inner_products n lower other))
 
 -- the products come to the double sum
-inner_value : (n : ℕ) (lower other : List ℤ) → list_sum int_ring product_of (inner_products n lower other) ≡ inner n (entry (matrix_of n lower)) (entry (matrix_of n other))
+inner_value : (n : ℕ) (lower other : List ℤ) → list_sum int_ring product_of (inner_products n lower other) ≡ inner n (entry (symmetric_of n lower)) (entry (symmetric_of n other))
 unfolding inner_products inner_product
 inner_value n lower other =
-    let g : ℕ → ℕ → ℤ = λ (i : ℕ) (j : ℕ). entry (matrix_of n lower) i j *ℤ entry (matrix_of n other) i j in
-    list_sum_of_map (inner_product (matrix_of n lower) (matrix_of n other)) (triangle_places n)
+    let g : ℕ → ℕ → ℤ = λ (i : ℕ) (j : ℕ). entry (symmetric_of n lower) i j *ℤ entry (symmetric_of n other) i j in
+    list_sum_of_map (inner_product (symmetric_of n lower) (symmetric_of n other)) (triangle_places n)
     ∙ list_sum_same int_ring _ (λ p. pos (multiplicity p) *ℤ g p.row p.column) (triangle_places n)
-    (λ p. moved (entry (matrix_of n lower) p.row p.column) (pos (multiplicity p)) (entry (matrix_of n other) p.row p.column))
-    ∙ sum_by_places n g (λ i j hi hj. ap₂ (λ (a : ℤ) (b : ℤ). a *ℤ b) (entry_flip (matrix_of n lower) i j) (entry_flip (matrix_of n other) i j))
-    ∙ sym (inner_is n (entry (matrix_of n lower)) (entry (matrix_of n other)))
+    (λ p. moved (entry (symmetric_of n lower) p.row p.column) (pos (multiplicity p)) (entry (symmetric_of n other) p.row p.column))
+    ∙ sum_by_places n g (λ i j hi hj. ap₂ (λ (a : ℤ) (b : ℤ). a *ℤ b) (entry_flip (symmetric_of n lower) i j) (entry_flip (symmetric_of n other) i j))
+    ∙ sym (inner_is n (entry (symmetric_of n lower)) (entry (symmetric_of n other)))
   where
     moved : (q m t : ℤ) → q *ℤ (m *ℤ t) ≡ m *ℤ (q *ℤ t)
     moved q m t = ring (q ∷ m ∷ t ∷ []) (v0 ⊗ (v1 ⊗ v2)) (v1 ⊗ (v0 ⊗ v2)) refl
 
 pub inner_answer_is : (n : ℕ) (lower other : List ℤ)
-    → sum_answer (inner_products n lower other) (pos 0) ≡ answer is_owed (inner_ops (matrix_of n lower) (matrix_of n other)) (inner n (entry (matrix_of n lower)) (entry (matrix_of n other)))
+    → sum_answer (inner_products n lower other) (pos 0) ≡ answer is_owed (inner_ops (symmetric_of n lower) (symmetric_of n other)) (inner n (entry (symmetric_of n lower)) (entry (symmetric_of n other)))
 unfolding inner_products inner_ops
-inner_answer_is n lower other = sum_answer_is (inner_products n lower other) (inner n (entry (matrix_of n lower)) (entry (matrix_of n other))) (inner_value n lower other)
+inner_answer_is n lower other = sum_answer_is (inner_products n lower other) (inner n (entry (symmetric_of n lower)) (entry (symmetric_of n other))) (inner_value n lower other)

@@ -11,3 +11,6 @@ pub mod FormSteps
 pub mod InnerSteps
 pub mod Divisors
 pub mod BinaryDivisors
+pub mod Combinations
+pub mod Primitives
+pub mod FirstMatrix

@@ -4,15 +4,15 @@ use Rattle.std.proofs.Common.{arith, sym, ◌∙◌, ap, inl, inr}
 use Rattle.std.proofs.lemmas.List.{get_or_default}
 use Rattle.exact_forms.specs.Triangles.{triangle}
 use Rattle.exact_forms.proofs.Triangles.{twice_triangle, entry_before, entry_in_below, entry_in_symmetric}
-use Rattle.symmetric_matrix.specs.Symmetric.{Symmetric, IsNarrow, IsSymmetricMatrix, entry}
+use Rattle.symmetric_matrix.specs.Symmetric.{Symmetric, FitsInt, IsSymmetricMatrix, entry}
 
 pub half_is_triangle : (r : ℕ) → r * (r - 1) / 2 ≡ triangle (r - 1)
 half_is_triangle zero = let e = twice_triangle 0 in omega arith
 half_is_triangle (suc n) = let before : suc n - 1 ≡ n = omega arith in let e = twice_triangle n in rw before (omega arith)
 
-pub entry_at : (q : Symmetric) (i j : ℕ) → j ≤ i → entry q i j ≡ slice_index_or q.lower (triangle i + j) (pos 0)
+pub entry_lower : (q : Symmetric) (i j : ℕ) → j ≤ i → entry q i j ≡ slice_index_or q.lower (triangle i + j) (pos 0)
 unfolding entry
-entry_at q i j h = entry_in_below (pos 0) q.lower i j h
+entry_lower q i j h = entry_in_below (pos 0) q.lower i j h
 
 pub entry_flip : (q : Symmetric) (i j : ℕ) → entry q i j ≡ entry q j i
 unfolding entry
@@ -26,13 +26,13 @@ entry_sorted q i j = by (order i j)
     order i j = grind arith
 
     by : ((j ≤ i) ⊎ (i ≤ j)) → entry q i j ≡ slice_index_or q.lower (triangle (max i j) + min i j) (pos 0)
-    by (inl h) = let a : max i j ≡ i = omega arith in let b : min i j ≡ j = omega arith in rw (a, b) (entry_at q i j h)
-    by (inr h) = let a : max i j ≡ j = omega arith in let b : min i j ≡ i = omega arith in rw (a, b) (entry_flip q i j ∙ entry_at q j i h)
+    by (inl h) = let a : max i j ≡ i = omega arith in let b : min i j ≡ j = omega arith in rw (a, b) (entry_lower q i j h)
+    by (inr h) = let a : max i j ≡ j = omega arith in let b : min i j ≡ i = omega arith in rw (a, b) (entry_flip q i j ∙ entry_lower q j i h)
 
-pub entry_narrow : (q : Symmetric) → IsSymmetricMatrix q → (i j : ℕ) → i < q.size → j < q.size → IsNarrow (entry q i j)
+pub entry_narrow : (q : Symmetric) → IsSymmetricMatrix q → (i j : ℕ) → i < q.size → j < q.size → FitsInt (entry q i j)
 entry_narrow q m i j hi hj =
     let inside : triangle (max i j) + min i j < triangle q.size = entry_before (max i j) (min i j) q.size (omega arith) (omega arith) in
-    rw (entry_sorted q i j) (m.triangle.narrow (triangle (max i j) + min i j) (omega (arith, m.triangle.entries)))
+    rw (entry_sorted q i j) (m.triangle.fits (triangle (max i j) + min i j) (omega (arith, m.triangle.entries)))
 
 -- where row r, column c, counted from 1, stand in the triangle
 pub place_in_range : (q : Symmetric) → IsSymmetricMatrix q → (r c k : ℕ) → 1 ≤ r → r ≤ q.size → 1 ≤ c → c ≤ q.size

@@ -1,10 +1,13 @@
 -- The steps of a sum of products.
-use Rattle.std.specs.Prelude.{◌≡◌, ℕ, ◌+◌, ◌<◌, ◌≤◌, ℤ, pos, ◌+ℤ◌, ◌*ℤ◌, List, [], ◌∷◌, ◌++◌, length, drop, slice_index_or, Result, Ok, Err}
-use Rattle.std.proofs.Common.{sym, ◌∙◌, ap, refl, add-one, drop-cons, drop_of_length-le}
+use Rattle.std.specs.Prelude.{◌≡◌, ℕ, ◌+◌, ◌-◌, ◌^◌, ◌<◌, ◌≤◌, nat_lt, nat_abs, Bool, true, false, if◌then◌else◌, FitsSigned, ℤ, pos, ◌+ℤ◌, ◌*ℤ◌, List, [], ◌∷◌, ◌++◌, length, drop, slice_index_or, Result, Ok, Err}
+use Rattle.std.specs.Int.{w128}
+use Rattle.std.proofs.Common.{arith, to_z, of_z, sym, ◌∙◌, ap, refl, subst, add-one, drop-cons, drop_of_length-le}
+use Rattle.std.proofs.lemmas.Int.{ints, to_z-of_z}
 use Rattle.commutative_ring.proofs.Ring.{int_ring, ring, num, ◌⊕◌, ◌⊗◌, v0, v1, v2, v3}
 use Rattle.symmetric_matrix.specs.declared.operation.IntOp.{IntOp}
 use Rattle.symmetric_matrix.specs.Owed.{answer}
-use Rattle.symmetric_matrix.specs.Operations.{is_owed, mul_op, add_op}
+use Rattle.symmetric_matrix.specs.Operations.{exact_result, is_owed, mul_op, add_op}
+use Rattle.symmetric_matrix.specs.Symmetric.{FitsInt}
 use Rattle.symmetric_matrix.specs.Recipes.{Product, product_ops, sum_ops}
 use Rattle.symmetric_matrix.proofs.Owed.{answer_nothing, answer-append_err, answer-append_ok}
 use Rattle.symmetric_matrix.proofs.Telescopes.{list_sum}
@@ -12,12 +15,12 @@ use Rattle.symmetric_matrix.proofs.Telescopes.{list_sum}
 abbrev pub product_of : Product → ℤ
 product_of p = p.left *ℤ p.right
 
-pub sum_from : List Product → ℤ → ℤ
+unfoldable pub sum_from : List Product → ℤ → ℤ
 sum_from [] s = s
 sum_from (p ∷ rest) s = sum_from rest (s +ℤ p.left *ℤ p.right)
 
 -- what is answered with the products that are left, from the sum s on
-pub sum_answer : List Product → ℤ → Result ℤ IntOp
+unfoldable pub sum_answer : List Product → ℤ → Result ℤ IntOp
 sum_answer products s = answer is_owed (sum_ops products s) (sum_from products s)
 
 sum_answer_cons : (p : Product) (rest : List Product) (s : ℤ)
@@ -65,6 +68,55 @@ unfolding sum_answer
 sum_answer_is products value h =
     ap (λ (z : ℤ). answer is_owed (sum_ops products (pos 0)) z)
     (sum_from_is products (pos 0) ∙ ap (λ (z : ℤ). pos 0 +ℤ z) h ∙ ring (value ∷ []) (num (pos 0) ⊕ v0) v0 refl)
+
+-- ---- what is answered fits
+pub answered_fits : (op : IntOp) (z : ℤ) → answer is_owed (op ∷ []) (exact_result op) ≡ Ok z → FitsInt z
+unfolding answer
+answered_fits op z h = by (is_owed op) refl h
+  where
+    within : (m : ℕ) → nat_lt (2 ^ 127 - 1) m ≡ false → m ≤ 2 ^ 127 - 1
+    within m e = grind arith
+
+    by : (b : Bool) → is_owed op ≡ b → (if b then Err op else Ok (exact_result op)) ≡ Ok z → FitsInt z
+    by true e h = absurd cc
+    by false e h = let same : exact_result op ≡ z = cc in subst FitsInt same (within (nat_abs (exact_result op)) e)
+
+-- a number that fits is kept as it is
+pub fits_as_kept : (z : ℤ) → FitsInt z → FitsInt (to_z w128 (of_z w128 z))
+fits_as_kept z h = let within : FitsSigned w128 z = omega (arith, ints) in subst FitsInt (sym (to_z-of_z w128 z within)) h
+
+-- a list in two parts that answers, answers in its second part
+second_answers : {V : Type 0} (xs ys : List IntOp) (v z : V) → answer is_owed (xs ++ ys) v ≡ Ok z → answer is_owed ys v ≡ Ok z
+unfolding answer
+second_answers [] ys v z h = h
+second_answers {V} (op ∷ xs) ys v z h = by (is_owed op) h (second_answers xs ys v z)
+  where
+    by : (b : Bool) → (if b then Err op else answer is_owed (xs ++ ys) v) ≡ Ok z → (answer is_owed (xs ++ ys) v ≡ Ok z → answer is_owed ys v ≡ Ok z) → answer is_owed ys v ≡ Ok z
+    by true h rec = absurd cc
+    by false h rec = rec h
+
+first_answers : {U V : Type 0} (xs ys : List IntOp) (u : U) (v z : V) → answer is_owed (xs ++ ys) v ≡ Ok z → answer is_owed xs u ≡ Ok u
+unfolding answer
+first_answers [] ys u v z h = refl
+first_answers {U} {V} (op ∷ xs) ys u v z h = by (is_owed op) h (first_answers xs ys u v z)
+  where
+    by : (b : Bool) → (if b then Err op else answer is_owed (xs ++ ys) v) ≡ Ok z → (answer is_owed (xs ++ ys) v ≡ Ok z → answer is_owed xs u ≡ Ok u) → (if b then Err op else answer is_owed xs u) ≡ Ok u
+    by true h rec = absurd cc
+    by false h rec = rec h
+
+product_fits : (s : ℤ) (p : Product) → answer is_owed (product_ops s p) (s +ℤ p.left *ℤ p.right) ≡ Ok (s +ℤ p.left *ℤ p.right) → FitsInt (s +ℤ p.left *ℤ p.right)
+unfolding product_ops
+product_fits s p h =
+    let t : ℤ = s +ℤ p.left *ℤ p.right in
+    let both : answer is_owed (mul_op p.left p.right ∷ add_op s (p.left *ℤ p.right) ∷ []) t ≡ Ok t = second_answers p.before (mul_op p.left p.right ∷ add_op s (p.left *ℤ p.right) ∷ []) t t h in
+    answered_fits (add_op s (p.left *ℤ p.right)) t (second_answers (mul_op p.left p.right ∷ []) (add_op s (p.left *ℤ p.right) ∷ []) t t both)
+
+pub sum_fits : (products : List Product) (s z : ℤ) → FitsInt s → sum_answer products s ≡ Ok z → FitsInt z
+unfolding sum_answer sum_ops sum_from
+sum_fits [] s z f h = let e : Ok s ≡ Ok z = sym (answer_nothing is_owed s) ∙ h in let same : s ≡ z = cc in subst FitsInt same f
+sum_fits (p ∷ rest) s z f h =
+    let t : ℤ = s +ℤ p.left *ℤ p.right in
+    sum_fits rest t z (product_fits s p (first_answers (product_ops s p) (sum_ops rest t) t (sum_from rest t) z h)) (second_answers (product_ops s p) (sum_ops rest t) (sum_from rest t) z h)
 
 -- ---- a product and a sum
 pub product_refused : (s x y v : ℤ) (err : IntOp) → answer is_owed (mul_op x y ∷ []) (x *ℤ y) ≡ Err err → answer is_owed (mul_op x y ∷ add_op s (x *ℤ y) ∷ []) v ≡ Err err

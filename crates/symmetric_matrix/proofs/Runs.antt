@@ -28,7 +28,7 @@ unfolding run_digit
 run_digit_after r p a = grind arith
 
 -- two runs that begin together have the same digits up to the end of either
-run_digit_same : (r s : Run) (p : ℕ) → s.first ≡ r.first → p ≤ r.last → p ≤ s.last → run_digit r p ≡ run_digit s p
+pub run_digit_same : (r s : Run) (p : ℕ) → s.first ≡ r.first → p ≤ r.last → p ≤ s.last → run_digit r p ≡ run_digit s p
 unfolding run_digit
 run_digit_same r s p e a b = grind arith
 

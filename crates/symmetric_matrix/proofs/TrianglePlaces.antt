@@ -2,7 +2,7 @@
 use Rattle.std.specs.Prelude.{◌≡◌, ◌≢◌, ℕ, zero, suc, ◌+◌, ◌<◌, ◌≤◌, ◌⊎◌, ℤ, pos, ◌+ℤ◌, ◌*ℤ◌, List, [], ◌∷◌, ◌++◌, length, map, slice_index_or}
 use Rattle.std.specs.List.{range_with_len, flat_map}
 use Rattle.std.proofs.Common.{arith, sym, ◌∙◌, ap, ap₂, refl, inl, inr}
-use Rattle.std.proofs.lemmas.List.{append-nil, length-append, get_or_append_left, get_or-append-add}
+use Rattle.std.proofs.lemmas.List.{append-nil, length-append, get_or-map, get_or_append_left, get_or-append-add}
 use Rattle.std.proofs.lemmas.List.FromFn.{length-map-range_with_len, get_or-map-range_with_len, map-range_with_len_more}
 use Rattle.std.proofs.lemmas.List.Concat.{flat_map-append}
 use Rattle.commutative_ring.proofs.Expand.{expand}
@@ -11,7 +11,9 @@ use Rattle.exact_forms.specs.Sums.{sum_to}
 use Rattle.exact_forms.specs.Triangles.{triangle}
 use Rattle.exact_forms.proofs.Sums.{sum_to-zero, sum_to-suc, sum_to_more, sum_to_same, mul-sum_to}
 use Rattle.exact_forms.proofs.Triangles.{triangle-zero, triangle-suc, entry_before, sum_by_triangle}
+use Rattle.symmetric_matrix.specs.Symmetric.{entry}
 use Rattle.symmetric_matrix.specs.Recipes.{Place, row_places, triangle_places, multiplicity}
+use Rattle.symmetric_matrix.proofs.Places.{entry_lower}
 use Rattle.symmetric_matrix.proofs.Runs.{range_more}
 use Rattle.symmetric_matrix.proofs.Telescopes.{list_sum, list_sum-append, list_sum_one, list_sum_none}
 
@@ -26,11 +28,11 @@ row_place_at : (i j : ℕ) (d : Place) → j ≤ i → slice_index_or (row_place
 unfolding row_places
 row_place_at i j d h = get_or-map-range_with_len (place i) 0 (i + 1) j j d (omega arith) (omega arith)
 
-triangle_places_none : triangle_places 0 ≡ []
+pub triangle_places_none : triangle_places 0 ≡ []
 unfolding triangle_places
 triangle_places_none = refl
 
-triangle_places_more : (n : ℕ) → triangle_places (n + 1) ≡ triangle_places n ++ row_places n
+pub triangle_places_more : (n : ℕ) → triangle_places (n + 1) ≡ triangle_places n ++ row_places n
 unfolding triangle_places
 triangle_places_more n =
     ap (flat_map row_places) (range_more n) ∙ flat_map-append row_places (range_with_len 0 n) (n ∷ [])
@@ -113,3 +115,10 @@ sum_by_places n g symmetric =
         ∙ ap₂ (λ (a : ℤ) (b : ℤ). a +ℤ b)
         (sum_to_same i _ (λ j. pos 2 *ℤ g i j) (λ j l. ap (λ (m : ℕ). pos m *ℤ g i j) (multiplicity_beside i j (omega arith))) ∙ sym (mul-sum_to (pos 2) i (λ j. g i j)))
         (ap (λ (m : ℕ). pos m *ℤ g i i) (multiplicity_on i) ∙ one_times (g i i))
+
+-- ---- a matrix that is made place by place
+pub placed_entry : (n : ℕ) (g : Place → ℤ) (i j : ℕ) → j ≤ i → i < n → entry (record { size = n; lower = map g (triangle_places n) }) i j ≡ g (place i j)
+placed_entry n g i j h l =
+    entry_lower (record { size = n; lower = map g (triangle_places n) }) i j h
+    ∙ get_or-map g (triangle_places n) (triangle i + j) (place 0 0) (pos 0) (omega (arith, length-triangle_places n, entry_before i j n h l))
+    ∙ ap g (triangle_place_at n i j (place 0 0) l h)

@@ -6,3 +6,5 @@ pub mod StartVectors
 pub mod StartWeights
 pub mod Recipes
 pub mod Divisors
+pub mod Combining
+pub mod FirstMatrix

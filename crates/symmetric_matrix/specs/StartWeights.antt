@@ -6,7 +6,7 @@
 --     start_coordinates n q d k   the k-th weight over d, from 0
 --
 --     StartWeightsWrite           the weights of a symmetric Q over d are coordinates of Q/d
---     StartMatricesAreFree        only the coefficients 0 give the zero matrix, so there are no other coordinates
+--     StartMatricesAreIndependent  only the coefficients 0 give the zero matrix, so there are no other coordinates
 use Rattle.std.specs.Prelude.{ℕ, ◌<◌, ◌+◌, ◌-◌, ◌&&◌, nat_lt, nat_le, if◌then◌else◌, ℤ, pos, ◌+ℤ◌, neg_ℤ, List, map, slice_index_or}
 use Rattle.exact_forms.specs.Rational.{Rational, ratio}
 use Rattle.exact_forms.specs.Forms.{IsSymmetric}
@@ -32,5 +32,5 @@ start_coordinates n q d k = ratio (slice_index_or (start_weights n q) k (pos 0))
 abbrev pub StartWeightsWrite : Type 0
 StartWeightsWrite = (n : ℕ) (q : ℕ → ℕ → ℤ) (d : ℕ) → 0 < d → IsSymmetric n q → AreCoordinates n (start_list n) (start_coordinates n q d) (λ i j. ratio (q i j) d)
 
-abbrev pub StartMatricesAreFree : Type 0
-StartMatricesAreFree = (n : ℕ) → AreIndependent n (start_list n)
+abbrev pub StartMatricesAreIndependent : Type 0
+StartMatricesAreIndependent = (n : ℕ) → AreIndependent n (start_list n)

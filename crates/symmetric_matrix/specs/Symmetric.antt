@@ -1,19 +1,19 @@
 -- A symmetric matrix of whole numbers, as contracts see it.
 --
---     IsNarrow z              the magnitude of z is at most 2^127 - 1
---     IsLower n lower         the entries of a lower triangle of n rows, row by row, each narrow
+--     FitsInt z               the magnitude of z is at most 2^127 - 1
+--     IsLower n lower         the entries of a lower triangle of n rows, row by row, each of which fits
 --     Symmetric               a matrix: the number of rows, and the lower triangle
 --     entry q i j             the entry at row i, column j, counted from 0
 --     IsSymmetricMatrix q     1 to 8 rows, and a lower triangle of so many rows
 use Rattle.std.specs.Prelude.{◌≡◌, ℕ, ◌<◌, ◌≤◌, ◌^◌, ◌-◌, ℤ, pos, nat_abs, List, length, slice_index_or}
 use Rattle.exact_forms.specs.Triangles.{triangle, entry_in}
 
-abbrev pub IsNarrow : ℤ → Type 0
-IsNarrow z = nat_abs z ≤ 2 ^ 127 - 1
+abbrev pub FitsInt : ℤ → Type 0
+FitsInt z = nat_abs z ≤ 2 ^ 127 - 1
 
 pub record IsLower (n : ℕ) (lower : List ℤ) : Type 0 where
   pub entries : length lower ≡ triangle n
-  pub narrow : (k : ℕ) → k < length lower → IsNarrow (slice_index_or lower k (pos 0))
+  pub fits : (k : ℕ) → k < length lower → FitsInt (slice_index_or lower k (pos 0))
 
 pub record Symmetric : Type 0 where
   pub size : ℕ

@@ -4,24 +4,24 @@ ghost use Rattle.std.specs.Prelude.{◌≡◌, ℕ, ◌<◌, ◌^◌, ◌%◌, p
 ghost use Rattle.std.specs.Int.{IsGcd};
 ghost use Rattle.commutative_ring.specs.Gcd.{gcd_of};
 ghost use Rattle.symmetric_matrix.specs.Divisors.{divisor_from};
-ghost use Rattle.symmetric_matrix.specs.Symmetric.{IsNarrow};
+ghost use Rattle.symmetric_matrix.specs.Symmetric.{FitsInt};
 
 /// The greatest common divisor, which is at least 0. That of 0 and 0 is 0.
 pub fn gcd(left: i128, right: i128) -> i128
-    requires left { IsNarrow left }
-    requires right { IsNarrow right }
+    requires left { FitsInt left }
+    requires right { FitsInt right }
     ensures value { result ≡ pos (gcd_of (nat_abs left) (nat_abs right)) }
     ensures greatest { IsGcd (nat_abs left) (nat_abs right) (nat_abs result) }
-    ensures narrow { IsNarrow result }
+    ensures fits { FitsInt result }
 {
     gcd_wide(left.unsigned_abs(), right.unsigned_abs()) as i128
 }
 
 // The greatest common divisor of the entries of a lower triangle.
 pub(crate) fn divisor_of(lower: &[i128]) -> u128
-    requires { (k : ℕ) → k < length lower.now → IsNarrow (slice_index_or lower.now k (pos 0)) }
+    requires { (k : ℕ) → k < length lower.now → FitsInt (slice_index_or lower.now k (pos 0)) }
     ensures value { result ≡ divisor_from 0 lower.now }
-    ensures narrow { result < 2 ^ 127 }
+    ensures fits { result < 2 ^ 127 }
 {
     let mut divisor: u128 = 0;
     for entry in lower {

@@ -1,13 +1,13 @@
 //! Sums of products over a lower triangle: the value of a form, and inner products.
 
-ghost use Rattle.std.specs.Prelude.{◌≡◌, ◌*◌, ◌<◌, [], ◌∷◌, pos, ◌+ℤ◌, ◌*ℤ◌, length, slice_index};
+ghost use Rattle.std.specs.Prelude.{◌≡◌, ◌*◌, ◌<◌, [], ◌∷◌, pos, ◌+ℤ◌, ◌*ℤ◌, length, slice_index, IfOk};
 ghost use Rattle.exact_forms.specs.Forms.{form, inner};
 ghost use Rattle.exact_forms.specs.Vectors.{coordinate};
 ghost use Rattle.symmetric_matrix.specs.Lists.{IsVector};
 ghost use Rattle.symmetric_matrix.specs.Owed.{answer};
 ghost use Rattle.symmetric_matrix.specs.Operations.{is_owed, mul_op, add_op};
 ghost use Rattle.symmetric_matrix.specs.Recipes.{multiplicity, form_ops, inner_ops};
-ghost use Rattle.symmetric_matrix.specs.Symmetric.{Symmetric, IsLower, entry};
+ghost use Rattle.symmetric_matrix.specs.Symmetric.{Symmetric, FitsInt, IsLower, entry};
 
 use crate::operation::{IntOp, int_add, int_mul};
 
@@ -15,8 +15,9 @@ use crate::operation::{IntOp, int_add, int_mul};
 pub(crate) fn form_of(lower: &[i128], x: &[u64]) -> Result<i128, IntOp>
     requires vector { IsVector x.now }
     requires lower { IsLower (length x.now) lower.now }
-    ensures { let q : Symmetric = record { size = length x.now; lower = lower.now } in
+    ensures value { let q : Symmetric = record { size = length x.now; lower = lower.now } in
         result ≡ answer is_owed (form_ops q x.now) (form (length x.now) (entry q) (coordinate x.now)) }
+    ensures fits { IfOk result FitsInt }
 {
     let mut sum = 0;
     let mut row = 0;
@@ -37,9 +38,10 @@ pub(crate) fn form_of(lower: &[i128], x: &[u64]) -> Result<i128, IntOp>
 pub(crate) fn inner_of(n: u8, lower: &[i128], other: &[i128]) -> Result<i128, IntOp>
     requires lower { IsLower n lower.now }
     requires other { IsLower n other.now }
-    ensures { let q : Symmetric = record { size = n; lower = lower.now } in
+    ensures value { let q : Symmetric = record { size = n; lower = lower.now } in
         let s : Symmetric = record { size = n; lower = other.now } in
         result ≡ answer is_owed (inner_ops q s) (inner n (entry q) (entry s)) }
+    ensures fits { IfOk result FitsInt }
 {
     let mut sum = 0;
     let mut row: usize = 0;
@@ -75,8 +77,9 @@ fn weight_at(x: &[u64], row: usize, column: usize) -> i128
     (times * product) as i128
 }
 
-// sum + left * right
-fn add_product(sum: i128, left: i128, right: i128) -> Result<i128, IntOp>
+/// `sum` plus the product of `left` and `right`, or the first of the two operations that does not fit: the product, then the
+/// sum.
+pub fn add_product(sum: i128, left: i128, right: i128) -> Result<i128, IntOp>
     ensures { result ≡ answer is_owed (mul_op left right ∷ add_op sum (left *ℤ right) ∷ []) (sum +ℤ left *ℤ right) }
 {
     let product = int_mul(left, right)?;

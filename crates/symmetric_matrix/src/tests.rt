@@ -2,7 +2,10 @@
 
 ghost use Rattle.std.specs.Prelude.{◌≡◌, IfOk};
 
-use crate::{IntKind, IntOp, IntVector, SymInt, VectorList, gcd, int_add, int_mul, start_vectors};
+use crate::{
+    Fail, IntKind, IntOp, IntVector, SymInt, VectorList, combine, gcd, int_add, int_mul,
+    start_matrix, start_minimum, start_vectors,
+};
 use std::alloc::{AllocError, Global};
 use std::cmp::Ordering;
 use std::process::Abort;
@@ -48,6 +51,63 @@ fn start_vectors_of_three_sizes(rt: HostRuntime) -> Result<(), AllocError> {
     lists(&rt, &start_vectors(rt.alloc(), 2)?, 2, &[0, 1, 1, 0, 1, 1]);
     let of_three = [0, 0, 1, 0, 1, 0, 0, 1, 1, 1, 0, 0, 1, 1, 0, 1, 1, 1];
     lists(&rt, &start_vectors(rt.alloc(), 3)?.copy()?, 3, &of_three);
+    Ok(())
+}
+
+// Whether a matrix has this lower triangle of two rows.
+fn is_of_two(rt: &impl Abort, q: &SymInt, lower: [i128; 3]) {
+    assert_eq!(rt; q.n(), 2);
+    assert_eq!(rt; [q.get(1, 1), q.get(2, 1), q.get(2, 2)], lower);
+}
+
+#[test]
+fn start_matrices(rt: HostRuntime) -> Result<(), AllocError> {
+    let of_one = start_matrix(rt.alloc(), 1)?;
+    assert_eq!(rt; of_one.n(), 1);
+    assert_eq!(rt; of_one.get(1, 1), 1);
+    assert_eq!(rt; start_minimum(1), 1);
+    is_of_two(&rt, &start_matrix(rt.alloc(), 2)?, [2, -1, 2]);
+    assert_eq!(rt; start_minimum(2), 2);
+    let of_four = start_matrix(rt.alloc(), 4)?;
+    assert_eq!(rt; of_four.n(), 4);
+    let last_row = [
+        of_four.get(4, 1),
+        of_four.get(4, 2),
+        of_four.get(4, 3),
+        of_four.get(4, 4),
+    ];
+    assert_eq!(rt; last_row, [0, 0, -1, 2]);
+    Ok(())
+}
+
+#[test]
+fn combination_and_its_primitive_form(rt: HostRuntime) -> Result<(), AllocError> {
+    let p = matrix(&rt, rt.alloc(), 2, &[2, -1, 2])?;
+    let r = matrix(&rt, rt.alloc(), 2, &[0, -1, 2])?;
+    match combine(rt.alloc(), 5, &p, 19, &r) {
+        Ok(sum) => {
+            is_of_two(&rt, &sum, [10, -24, 48]);
+            assert!(rt; sum.gcd_of_entries() != 0);
+            is_of_two(&rt, &sum.primitive()?, [5, -12, 24]);
+        }
+        Err(_) => assert!(rt; false),
+    }
+    Ok(())
+}
+
+#[test]
+fn combination_that_does_not_fit(rt: HostRuntime) -> Result<(), AllocError> {
+    let p = matrix(&rt, rt.alloc(), 2, &[0, 1, 0])?;
+    let r = matrix(&rt, rt.alloc(), 2, &[5, 1, 5])?;
+    let owed = IntOp {
+        kind: IntKind::Add,
+        left: LARGEST,
+        right: 1,
+    };
+    match combine(rt.alloc(), LARGEST, &p, 1, &r) {
+        Ok(_) => assert!(rt; false),
+        Err(fail) => assert_eq!(rt; fail, Fail::Wide(owed)),
+    }
     Ok(())
 }
 

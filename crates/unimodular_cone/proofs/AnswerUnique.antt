@@ -5,7 +5,7 @@ use Rattle.std.proofs.lemmas.Int.{ints}
 use Rattle.unimodular_cone.specs.Paths.{Path}
 use Rattle.unimodular_cone.specs.Cones.{Matrix, value, cone_at, unit_vectors, Fits, WideEntry, IsFirstOver}
 use Rattle.unimodular_cone.specs.Tree.{Mode, Sign, Least, IsInTree, IsFirstLowAt, IsFirstLow, IsFinalBound, IsLeastInTree, IsOpen, IsFirstOpen, IsFirstOverBelow}
-use Rattle.unimodular_cone.specs.Answer.{ListsAttaining, SearchAnswer, BoundWide, Wide, Low, Depth, Copositive, Found, IsLeastDiagonal, IsNarrow, IsClear, IsOpenAnswer, IsLowAnswer, IsClosedAnswer, IsSearchAnswer}
+use Rattle.unimodular_cone.specs.Answer.{ListsAttaining, SearchAnswer, BoundWide, Wide, Low, Depth, Copositive, Found, IsLeastDiagonal, BoundFits, IsClear, IsOpenAnswer, IsLowAnswer, IsClosedAnswer, IsSearchAnswer}
 use Rattle.exact_forms.proofs.Copositive.{lists_unique}
 use Rattle.exact_forms.proofs.Vectors.{vector_decided}
 use Rattle.unimodular_cone.proofs.Unique.{no_later_both, no_deeper_both, both_le, first_low_at_unique, first_over_unique, first_over_below_unique}
@@ -49,21 +49,21 @@ abbrev IsSecond : Mode → ℕ → Matrix → ℕ → SearchAnswer → Type 0
 IsSecond m n q d a = ((entry : WideEntry) × (a ≡ Wide [] entry) × IsFirstOver n q unit_vectors entry) ⊎ (Fits n q unit_vectors × IsThird m n q d a)
 
 abbrev IsFirst : Mode → ℕ → Matrix → ℕ → SearchAnswer → Type 0
-IsFirst m n q d a = ((z : ℤ) × (a ≡ BoundWide z) × (m ≡ Least) × IsLeastDiagonal n q z × (pos (2 ^ 63 - 1) <ℤ z)) ⊎ (IsNarrow m n q × IsSecond m n q d a)
+IsFirst m n q d a = ((z : ℤ) × (a ≡ BoundWide z) × (m ≡ Least) × IsLeastDiagonal n q z × (pos (2 ^ 63 - 1) <ℤ z)) ⊎ (BoundFits m n q × IsSecond m n q d a)
 
 in_order : (m : Mode) (n : ℕ) (q : Matrix) (d : ℕ) (a : SearchAnswer) → IsSearchAnswer m n q d a → IsFirst m n q d a
 in_order m n q d (BoundWide z) (h, l, lt) = inl (z, refl, h, l, lt)
 in_order m n q d (Wide at_path entry) (inl (narrow, e, over)) = inr (narrow, inl (entry, ap (λ (w : Path). Wide w entry) e, over))
-in_order m n q d (Wide at_path entry) (inr (p, o, lt, w)) = inr (o.clear.narrow, inr (o.clear.root_fits, inr (o.clear, inl (p, o, inr (at_path, entry, refl, lt, w)))))
-in_order m n q d (Low x z p) h = inr (h.narrow, inr (h.root_fits, inl (x, z, p, refl, h)))
-in_order m n q d (Depth p) (o, e) = inr (o.clear.narrow, inr (o.clear.root_fits, inr (o.clear, inl (p, o, inl (refl, e)))))
-in_order m n q d Copositive (e, c) = inr (c.clear.narrow, inr (c.clear.root_fits, inr (c.clear, inr (pos 0, c, inl (e, refl)))))
-in_order m n q d (Found b vectors) (e, c, l) = inr (c.clear.narrow, inr (c.clear.root_fits, inr (c.clear, inr (b, c, inr (vectors, e, refl, l)))))
+in_order m n q d (Wide at_path entry) (inr (p, o, lt, w)) = inr (o.clear.bound_fits, inr (o.clear.root_fits, inr (o.clear, inl (p, o, inr (at_path, entry, refl, lt, w)))))
+in_order m n q d (Low x z p) h = inr (h.bound_fits, inr (h.root_fits, inl (x, z, p, refl, h)))
+in_order m n q d (Depth p) (o, e) = inr (o.clear.bound_fits, inr (o.clear.root_fits, inr (o.clear, inl (p, o, inl (refl, e)))))
+in_order m n q d Copositive (e, c) = inr (c.clear.bound_fits, inr (c.clear.root_fits, inr (c.clear, inr (pos 0, c, inl (e, refl)))))
+in_order m n q d (Found b vectors) (e, c, l) = inr (c.clear.bound_fits, inr (c.clear.root_fits, inr (c.clear, inr (b, c, inr (vectors, e, refl, l)))))
 
 sign_not_least : (m : Mode) → m ≡ Sign → m ≡ Least → ⊥
 sign_not_least m e f = (cc)
 
-wide_not_narrow : (m : Mode) (n : ℕ) (q : Matrix) (z : ℤ) → m ≡ Least → IsLeastDiagonal n q z → pos (2 ^ 63 - 1) <ℤ z → IsNarrow m n q → ⊥
+wide_not_narrow : (m : Mode) (n : ℕ) (q : Matrix) (z : ℤ) → m ≡ Least → IsLeastDiagonal n q z → pos (2 ^ 63 - 1) <ℤ z → BoundFits m n q → ⊥
 wide_not_narrow Sign n q z e h lt narrow = (cc)
 wide_not_narrow Least n q z e h lt (k, l, le) = let g : z ≤ℤ q k k = h.least k l in omega (arith, ints)
 

@@ -6,7 +6,7 @@ use Rattle.std.proofs.lemmas.Int.{ints, to_z-of_z}
 use Rattle.std.proofs.lemmas.Bool.Decides.{nat_tests}
 use Rattle.unimodular_cone.specs.declared.pair_rule.Best.{Best}
 use Rattle.unimodular_cone.specs.BestPair.{best_pair, IsBestOf, better_best}
-use Rattle.unimodular_cone.specs.Cones.{Matrix, better, best_in_row, best_in_rows, pair_of, IsPair}
+use Rattle.unimodular_cone.specs.Cones.{Matrix, lesser_pair, best_in_row, best_in_rows, pair_of, IsPair}
 use Rattle.unimodular_cone.specs.Shown.{ShownCone, shown_gram}
 use Rattle.unimodular_cone.proofs.Pairs.{test_true, test_false, pair_of_some, pair_of_none}
 
@@ -30,7 +30,7 @@ better_is_best g b z i j e h = by (int_lt z b.value) refl
     by true f = record { at_most = le_of_lt z (pos 0) (below_trans z b.value (pos 0) (test_true z b.value f) h.at_most); entry = λ k. e }
     by false f = h
 
-pub better_pair : (g : Matrix) (b : Best) (z : ℤ) (i j : ℕ) → z ≡ g i j → IsBestOf g b → best_pair (better_best b z i j) ≡ better g (best_pair b) i j
+pub better_pair : (g : Matrix) (b : Best) (z : ℤ) (i j : ℕ) → z ≡ g i j → IsBestOf g b → best_pair (better_best b z i j) ≡ lesser_pair g (best_pair b) i j
 better_pair g b z i j e h = by (int_lt b.value (pos 0)) refl
   where
     -- the best so far is none
@@ -45,7 +45,7 @@ better_pair g b z i j e h = by (int_lt b.value (pos 0)) refl
     at_zero : (x : ℤ) → x ≤ℤ pos 0 → pos 0 ≤ℤ x → x ≡ pos 0
     at_zero x a c = omega (arith, ints)
 
-    by : (t : Bool) → int_lt b.value (pos 0) ≡ t → best_pair (better_best b z i j) ≡ better g (cond t (Some (b.row, b.column)) None) i j
+    by : (t : Bool) → int_lt b.value (pos 0) ≡ t → best_pair (better_best b z i j) ≡ lesser_pair g (cond t (Some (b.row, b.column)) None) i j
     by true f = let negative : b.value <ℤ pos 0 = test_true b.value (pos 0) f in
         with_one negative (int_lt z b.value) refl ∙ ap₂ (λ (x : ℤ) (y : ℤ). cond (int_lt x y) (Some (i, j)) (Some (b.row, b.column))) e (h.entry negative)
     by false f = let none : b.value ≡ pos 0 = at_zero b.value h.at_most (test_false b.value (pos 0) f) in
@@ -56,15 +56,15 @@ pub row_start : (g : Matrix) (i j : ℕ) (b : Option (ℕ × ℕ)) → j ≤ i +
 row_start g i zero b h = refl
 row_start g i (suc j) b h = by (ltb i j) (grind (arith, nat_tests)) (row_start g i j b (omega arith))
   where
-    by : (t : Bool) → t ≡ false → best_in_row g i j b ≡ b → cond t (better g (best_in_row g i j b) i j) (best_in_row g i j b) ≡ b
+    by : (t : Bool) → t ≡ false → best_in_row g i j b ≡ b → cond t (lesser_pair g (best_in_row g i j b) i j) (best_in_row g i j b) ≡ b
     by true e f = (cc)
     by false e f = f
 
-pub row_more : (g : Matrix) (i j : ℕ) (b : Option (ℕ × ℕ)) → i < j → best_in_row g i (j + 1) b ≡ better g (best_in_row g i j b) i j
+pub row_more : (g : Matrix) (i j : ℕ) (b : Option (ℕ × ℕ)) → i < j → best_in_row g i (j + 1) b ≡ lesser_pair g (best_in_row g i j b) i j
 row_more g i j b h =
     let e : j + 1 ≡ suc j = omega arith in
     let t : ltb i j ≡ true = grind (arith, nat_tests) in
-    ap (λ (w : ℕ). best_in_row g i w b) e ∙ ap (λ (w : Bool). cond w (better g (best_in_row g i j b) i j) (best_in_row g i j b)) t
+    ap (λ (w : ℕ). best_in_row g i w b) e ∙ ap (λ (w : Bool). cond w (lesser_pair g (best_in_row g i j b) i j) (best_in_row g i j b)) t
 
 pub rows_more : (g : Matrix) (n i : ℕ) → best_in_rows g n (i + 1) ≡ best_in_row g i n (best_in_rows g n i)
 rows_more g n i = let e : i + 1 ≡ suc i = omega arith in ap (best_in_rows g n) e

@@ -3,7 +3,7 @@ use Rattle.std.specs.Prelude.{◌≡◌, ℕ, zero, suc, ◌<◌, ℤ, pos, ◌�
 use Rattle.std.proofs.Common.{arith, inl, inr, subst}
 use Rattle.std.proofs.lemmas.Int.{ints}
 use Rattle.exact_forms.specs.Slacks.{slack, IsClosed}
-use Rattle.unimodular_cone.specs.Cones.{Matrix, Generators, gram, WideEntry, Coordinate, Gram, IsOver, StandsBefore, Fits, IsFirstOver}
+use Rattle.unimodular_cone.specs.Cones.{Matrix, Generators, gram, WideEntry, Coordinate, Gram, IsOverLimit, StandsBefore, Fits, IsFirstOver}
 
 pub record FirstBelow (n : ℕ) (P : ℕ → Type 0) : Type 0 where
   pub at : ℕ
@@ -87,14 +87,14 @@ fits_or_first_over n q v = by (first_below n (IsOverIn n q v) (λ k l. as_decide
     coordinate : (f : FirstBelow n (IsOverIn n q v)) → IsFirstOver n q v (Coordinate (suc f.at) (suc f.holds.at))
     coordinate f = record { over = (f.range, f.holds.range, f.holds.holds); first = first }
       where
-        first : (other : WideEntry) → StandsBefore other (Coordinate (suc f.at) (suc f.holds.at)) → ¬ IsOver n q v other
+        first : (other : WideEntry) → StandsBefore other (Coordinate (suc f.at) (suc f.holds.at)) → ¬ IsOverLimit n v (gram n q v) other
         first (Coordinate zero p) before over = absurd over
         first (Coordinate (suc k) zero) before over = absurd over
         first (Coordinate (suc k) (suc p)) (inl lt) (a, b, over) = none_of n _ (coordinates k) (f.first k (omega arith)) p b over
         first (Coordinate (suc k) (suc p)) (inr (e, lt)) (a, b, over) = f.holds.first p (omega arith) (subst (λ (w : ℕ). pos (2 ^ 62) <ℤ v w p) (let g : k ≡ f.at = omega arith in g) over)
         first (Gram i j) before over = absurd before
 
-    none_at : ((k : ℕ) → k < n → ¬ IsOverIn n q v k) → (k p : ℕ) → ¬ IsOver n q v (Coordinate k p)
+    none_at : ((k : ℕ) → k < n → ¬ IsOverIn n q v k) → (k p : ℕ) → ¬ IsOverLimit n v (gram n q v) (Coordinate k p)
     none_at none zero p over = over
     none_at none (suc k) zero over = over
     none_at none (suc k) (suc p) (a, b, over) = none_of n _ (coordinates k) (none k a) p b over
@@ -102,7 +102,7 @@ fits_or_first_over n q v = by (first_below n (IsOverIn n q v) (λ k l. as_decide
     gram_entry : ((k : ℕ) → k < n → ¬ IsOverIn n q v k) → (f : FirstBelow n (IsOverInRow n q v)) → IsFirstOver n q v (Gram (suc f.at) (suc f.holds.at))
     gram_entry none f = record { over = (f.range, (let r : f.holds.at < suc f.at = f.holds.range in omega arith), f.holds.holds); first = first }
       where
-        first : (other : WideEntry) → StandsBefore other (Gram (suc f.at) (suc f.holds.at)) → ¬ IsOver n q v other
+        first : (other : WideEntry) → StandsBefore other (Gram (suc f.at) (suc f.holds.at)) → ¬ IsOverLimit n v (gram n q v) other
         first (Coordinate k p) before over = none_at none k p over
         first (Gram zero j) before over = absurd over
         first (Gram (suc i) zero) before over = absurd over

@@ -4,12 +4,12 @@ use Rattle.std.proofs.Common.{arith, sym, ◌∙◌, ap, ap₂, refl, inl, inr}
 use Rattle.std.proofs.lemmas.Int.{ints}
 use Rattle.exact_forms.specs.Sums.{sum_to}
 use Rattle.exact_forms.specs.Forms.{form, combination, IsSymmetric}
-use Rattle.exact_forms.specs.Slacks.{replaced, shortfall, slack, IsClosed, AreNonnegative, SomeNonzero}
+use Rattle.exact_forms.specs.Slacks.{replaced, shortfall, slack, IsClosed, AreNonnegative}
 use Rattle.commutative_ring.proofs.Laws.{one_mul_ℤ, zero_mul_ℤ, mul_zero_ℤ}
 use Rattle.commutative_ring.proofs.Expand.{linear, times_one}
 use Rattle.exact_forms.proofs.Sums.{sum_to_same, sum_to_one, sum_to_none}
 use Rattle.exact_forms.proofs.Forms.{form_same, bilinear_symmetric}
-use Rattle.exact_forms.proofs.Slacks.{same_or_not, replaced_here, replaced_other, closed_bound, closed_at_zero, closed_equality, some_nonzero, child_zero_covers, child_coefficients_nonnegative, IsUnit, shortfall_of_nonneg}
+use Rattle.exact_forms.proofs.Slacks.{same_or_not, replaced_here, replaced_other, closed_bound, closed_at_zero, closed_equality, some_nonzero, child_zero_covers, child_coefficients_nonnegative, IsUnit, shortfall_of_nonneg, SomeNonzero}
 use Rattle.unimodular_cone.proofs.Pairs.{pair_of_some, pair_of_none}
 use Rattle.unimodular_cone.specs.Paths.{Path}
 pub use Rattle.unimodular_cone.specs.Theorems.{IsNonzeroBelow}

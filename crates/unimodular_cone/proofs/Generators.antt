@@ -6,7 +6,7 @@ use Rattle.exact_forms.specs.Slacks.{AreNonnegative}
 use Rattle.exact_forms.proofs.Slacks.{same_or_not, replaced_here, replaced_other}
 use Rattle.unimodular_cone.specs.Paths.{Path}
 use Rattle.unimodular_cone.specs.Cones.{Matrix, Generators, gram, child, child_at, next_cone, cone_from, cone_at, pair_of, unit_vectors, IsPair}
-use Rattle.unimodular_cone.specs.Answer.{IsVector}
+use Rattle.unimodular_cone.specs.Answer.{IsListOf}
 use Rattle.unimodular_cone.proofs.Pairs.{pair_of_some}
 use Rattle.unimodular_cone.proofs.Covers.{IsNonzeroBelow, row_range}
 
@@ -83,7 +83,7 @@ listed_at zero f p l = absurd (omega arith)
 listed_at (suc n) f zero l = refl
 listed_at (suc n) f (suc p) l = listed_at n (λ k. f (suc k)) p (omega arith)
 
-pub as_vector : (n : ℕ) (v : ℕ → ℤ) → AreNonnegative n v → IsVector n (listed n (λ p. nat_abs (v p))) v
+pub as_vector : (n : ℕ) (v : ℕ → ℤ) → AreNonnegative n v → IsListOf n (listed n (λ p. nat_abs (v p))) v
 as_vector n v nonneg = record {
   size = length_listed n _;
   same = λ p lp. ap pos (listed_at n (λ p. nat_abs (v p)) p lp) ∙ same (v p) (nonneg p lp);

@@ -8,7 +8,7 @@ use Rattle.exact_forms.specs.Slacks.{AreNonnegative}
 use Rattle.unimodular_cone.specs.Paths.{Path, IsAbove}
 use Rattle.unimodular_cone.specs.Cones.{Matrix, gram, value, cone_at, pair_of}
 use Rattle.unimodular_cone.specs.Tree.{Mode, Sign, Least, CanSplit, IsInTree, IsLowValue, IsLow, IsClosedAt, IsFinalBound, HasWideChild}
-use Rattle.unimodular_cone.specs.Answer.{coordinate, IsNonzero, IsLowVector, Attains, IsMinimum, IsCopositive, Found, Copositive, Low, IsSearchAnswer, IsClosedAnswer, IsVector}
+use Rattle.unimodular_cone.specs.Answer.{coordinate, IsNonzero, IsLowVector, Attains, IsMinimum, IsCopositive, Found, Copositive, Low, IsSearchAnswer, IsClosedAnswer, IsListOf}
 use Rattle.unimodular_cone.proofs.Covers.{value_same, closed_at_least, closed_nonnegative, closed_without_pair, IsNonzeroBelow}
 use Rattle.unimodular_cone.proofs.Bounded.{closed_or_not}
 use Rattle.unimodular_cone.proofs.Generators.{listed, as_vector, proper}
@@ -80,7 +80,7 @@ copositive_is n q d s (_, a) x size =
     let r = lies_in_closed Sign n q d (pos 0) s a (coordinate x) (nonneg_place n x) in
     closed_nonnegative n q (cone_at n q r.path) (coordinate x) s r.stops r.lies
 
-nonzero_vector : (n : ℕ) (x : List ℕ) (v : ℕ → ℤ) → IsVector n x v → IsNonzeroBelow n v → IsNonzero n x
+nonzero_vector : (n : ℕ) (x : List ℕ) (v : ℕ → ℤ) → IsListOf n x v → IsNonzeroBelow n v → IsNonzero n x
 nonzero_vector n x v h (p, lp, ne) = (p, lp, λ e. ne (sym (h.same p lp) ∙ e))
 
 pub not_low_Least : (z : ℤ) → (¬ IsLowValue Least z) → pos 1 ≤ℤ z
@@ -117,7 +117,7 @@ minimum_is n q d b vectors s (_, a, lists) = record {
     some (path, k, t, l, e) none =
         let v : ℕ → ℤ = cone_at n q path k in
         let x : List ℕ = listed n (λ p. nat_abs (v p)) in
-        let h : IsVector n x v = as_vector n v ((proper n q path).nonnegative k l) in
+        let h : IsListOf n x v = as_vector n v ((proper n q path).nonnegative k l) in
         let attains : Attains n q b x = record { size = h.size; nonzero = nonzero_vector n x v h ((proper n q path).nonzero k l); value = value_same n q (coordinate x) v h.same ∙ e } in
         empty_contains x (subst (λ (w : List (List ℕ)). Contains w x) none (lists.all x attains))
 

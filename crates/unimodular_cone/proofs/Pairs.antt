@@ -2,7 +2,7 @@
 use Rattle.std.specs.Prelude.{◌≡◌, ℕ, zero, suc, ◌<◌, ◌≤◌, ℤ, pos, ◌≤ℤ◌, ◌<ℤ◌, cond, ltb, int_lt, Bool, true, false, ◌⊎◌, Option, Some, None}
 use Rattle.std.proofs.Common.{arith, sym, ◌∙◌, ap, ap₂, refl, inl, inr, subst}
 use Rattle.std.proofs.lemmas.Int.{ints}
-use Rattle.unimodular_cone.specs.Cones.{Matrix, better, best_in_row, best_in_rows, pair_of, IsPair}
+use Rattle.unimodular_cone.specs.Cones.{Matrix, lesser_pair, best_in_row, best_in_rows, pair_of, IsPair}
 
 -- (k, l) comes before (i, j), and both columns are above their rows
 abbrev IsSeen : ℕ → ℕ → ℕ → ℕ → ℕ → Type 0
@@ -49,7 +49,7 @@ le_of_lt : (x y : ℤ) → x <ℤ y → x ≤ℤ y
 le_of_lt x y h = omega (arith, ints)
 
 -- (i, j) is one more place
-weighed : (n : ℕ) (g : Matrix) (i j : ℕ) (b : Option (ℕ × ℕ)) → i < j → j < n → IsBest n g i j b → IsBest n g i (suc j) (better g b i j)
+weighed : (n : ℕ) (g : Matrix) (i j : ℕ) (b : Option (ℕ × ℕ)) → i < j → j < n → IsBest n g i j b → IsBest n g i (suc j) (lesser_pair g b i j)
 weighed n g i j None lt lj h = by (int_lt (g i j) (pos 0)) refl
   where
     by : (t : Bool) → int_lt (g i j) (pos 0) ≡ t → IsBest n g i (suc j) (cond t (Some (i, j)) None)
@@ -80,7 +80,7 @@ row_best : (n : ℕ) (g : Matrix) (i j : ℕ) (b : Option (ℕ × ℕ)) → j �
 row_best n g i zero b le h = h
 row_best n g i (suc j) b le h = by (ltb i j) refl (row_best n g i j b (omega arith) h)
   where
-    by : (t : Bool) → ltb i j ≡ t → IsBest n g i j (best_in_row g i j b) → IsBest n g i (suc j) (cond t (better g (best_in_row g i j b) i j) (best_in_row g i j b))
+    by : (t : Bool) → ltb i j ≡ t → IsBest n g i j (best_in_row g i j b) → IsBest n g i (suc j) (cond t (lesser_pair g (best_in_row g i j b) i j) (best_in_row g i j b))
     by true e r = weighed n g i j (best_in_row g i j b) (grind arith) (omega arith) r
     by false e r = skipped n g i j (best_in_row g i j b) (grind arith) r
 

@@ -5,16 +5,16 @@ use Rattle.std.proofs.Common.{arith, to_z, of_z, sym, ◌∙◌, ap, inl, inr, g
 use Rattle.std.proofs.lemmas.Int.{ints, to_z-of_z}
 use Rattle.exact_forms.specs.Triangles.{triangle}
 use Rattle.exact_forms.proofs.Triangles.{place_decides}
-use Rattle.symmetric_matrix.specs.Symmetric.{Symmetric, entry, IsNarrow}
+use Rattle.symmetric_matrix.specs.Symmetric.{Symmetric, entry, FitsInt}
 use Rattle.unimodular_cone.specs.RootNumbers.{IsPartRowCopied, IsRowCopied, IsLowerOf}
 use Rattle.unimodular_cone.proofs.Fields.{place_below}
 
 -- a number of the matrix that was read
-narrow_back : (z y : ℤ) → z ≡ y → IsNarrow z → to_z w128 (of_z w128 z) ≡ y
+narrow_back : (z y : ℤ) → z ≡ y → FitsInt z → to_z w128 (of_z w128 z) ≡ y
 narrow_back z y e narrow = let f : FitsSigned w128 z = omega (arith, ints) in to_z-of_z w128 z f ∙ e
 
 pub row_copied_more : (q : Symmetric) (i k at : ℕ) (old new : List ℤ) (z : ℤ) → IsPartRowCopied q i k old new → length old ≡ 36 → k ≤ i → i < 8
-    → at ≡ triangle i + k → z ≡ entry q i k → IsNarrow z → IsPartRowCopied q i (k + 1) old (slice_set new at (to_z w128 (of_z w128 z)))
+    → at ≡ triangle i + k → z ≡ entry q i k → FitsInt z → IsPartRowCopied q i (k + 1) old (slice_set new at (to_z w128 (of_z w128 z)))
 row_copied_more q i k at old new z h size le li place is narrow = record {
   room = length-set new at v ∙ h.room;
   row = λ j lj lt. by j lj (last j lt);

@@ -8,13 +8,13 @@ use Rattle.unimodular_cone.specs.declared.refusal.WideAt.{WideAt}
 use Rattle.unimodular_cone.specs.declared.refusal.ConeFail.{ConeFail}
 use Rattle.unimodular_cone.specs.declared.refusal.ConeFail.TheVariants.{Wide, OutOfMemory}
 use Rattle.unimodular_cone.specs.Paths.{Path}
-use Rattle.unimodular_cone.specs.Cones.{Matrix, Generators, gram, value, cone_at, pair_of, IsPair, child, child_on, child_gram, child_gram_on, FitsLimits, Fits, IsFirstOver}
+use Rattle.unimodular_cone.specs.Cones.{Matrix, Generators, gram, value, unit_vectors, cone_from, cone_at, pair_of, IsPair, child, child_on, child_gram, child_gram_on, FitsLimits, Fits, IsFirstOver}
 use Rattle.unimodular_cone.specs.Tree.{CanSplit, IsClosedAt, IsFirstOverBelow}
-use Rattle.unimodular_cone.specs.Shown.{ShownCone, shown_gram, shown_generators, IsWithinLimits, IsConeOf, IsConeAt, IsChild, IsFirstWide, FitsOnSide, FitsOnBothSides, IsFirstWideBelow, IsWideWhere, ReachesChild, NamesPair}
-use Rattle.unimodular_cone.proofs.Pairs.{pair_is, pair_same, none_is}
+use Rattle.unimodular_cone.specs.Shown.{ShownCone, shown_gram, shown_generators, IsWithinLimits, IsConeOf, IsConeAt, IsChild, IsFirstWide, FitsOnSide, FitsOnBothSides, IsFirstWideBelow, IsWideWhere, ReachesChild, IsExactChild, ShowsChild, NamesPair}
+use Rattle.unimodular_cone.proofs.Pairs.{pair_is, pair_same, none_is, some_pair}
 use Rattle.unimodular_cone.proofs.Additions.{gram-child, child_row, child_row_other}
 use Rattle.unimodular_cone.proofs.Tree.{cone_at-side}
-use Rattle.unimodular_cone.proofs.LimitsSame.{SameBelow, fits_same, first_over_same}
+use Rattle.unimodular_cone.proofs.LimitsSame.{SameBelow, same_back, fits_same, first_over_same}
 
 -- ---- what looks at the entries below n alone
 pub slack_same : (n : ℕ) (g h : Matrix) (i : ℕ) → i < n → ((k l : ℕ) → k < n → l < n → g k l ≡ h k l) → slack n g i ≡ slack n h i
@@ -47,7 +47,7 @@ module _ (n : ℕ) (q : Matrix) (v : Generators) (c : ShownCone) (h : IsConeOf n
   gram_on false k l lk ll = child_gram_same n (shown_gram c) (gram n q v) i j k l li lj lk ll h.gram_is ∙ sym (gram-child n q v i j k l)
   gram_on true k l lk ll = child_gram_same n (shown_gram c) (gram n q v) j i k l lj li lk ll h.gram_is ∙ sym (gram-child n q v j i k l)
 
-  same_on : (side : Bool) → SameBelow n (child_on (shown_generators c) i j side) (child_on v i j side) (child_gram_on (shown_gram c) i j side) (gram n q (child_on v i j side))
+  pub same_on : (side : Bool) → SameBelow n (child_on (shown_generators c) i j side) (child_on v i j side) (child_gram_on (shown_gram c) i j side) (gram n q (child_on v i j side))
   same_on side = record { generators = generators_on side; gram_is = gram_on side }
 
   pub child_of : (side : Bool) (d : ShownCone) → IsChild c i j side d → IsConeOf n q (child_on v i j side) d
@@ -115,6 +115,21 @@ module _ (n : ℕ) (q : Matrix) (path : Path) (c : ShownCone) (h : IsConeAt n q 
     second_fits = fits_of n q (cone_at n q path) c h.cone i j (row_in i j p) (column_in i j p) true both.second;
   }
 
+  -- the other way round
+  pub fits_on_both_at : (i j : ℕ) → IsPair c.size (shown_gram c) i j → CanSplit n q (cone_at n q path) → FitsOnBothSides c i j
+  fits_on_both_at i j p s =
+      let e : (s.i ≡ i) × (s.j ≡ j) = some_pair (sym s.pair ∙ pair_at i j p) in
+      record {
+        first = shown_fits false (rw (← e.0, ← e.1) s.first_fits);
+        second = shown_fits true (rw (← e.0, ← e.1) s.second_fits);
+      }
+    where
+      shown_fits : (side : Bool) → Fits n q (child_on (cone_at n q path) i j side) → FitsOnSide c i j side
+      shown_fits side fits =
+          subst (λ (m : ℕ). FitsLimits m (child_on (shown_generators c) i j side) (child_gram_on (shown_gram c) i j side)) (sym h.cone.size)
+          (fits_same n (child_on (cone_at n q path) i j side) (child_on (shown_generators c) i j side) (gram n q (child_on (cone_at n q path) i j side)) (child_gram_on (shown_gram c) i j side)
+          (same_back (same_on n q (cone_at n q path) c h.cone i j (row_in i j p) (column_in i j p) side)) fits)
+
   pub wide_below_at : (i j : ℕ) (at : WideAt) → IsPair c.size (shown_gram c) i j → IsFirstWideBelow c i j at → IsFirstOverBelow n q path at.path at.entry
   wide_below_at i j at p w = record { i = i; j = j; pair = pair_at i j p; in_child = by w }
     where
@@ -126,9 +141,23 @@ module _ (n : ℕ) (q : Matrix) (path : Path) (c : ShownCone) (h : IsConeAt n q 
       by (inl f) = inl (moved false f, wide_of n q (cone_at n q path) c h.cone i j (row_in i j p) (column_in i j p) false at f)
       by (inr (fits, f)) = inr (fits_of n q (cone_at n q path) c h.cone i j (row_in i j p) (column_in i j p) false fits, moved true f, wide_of n q (cone_at n q path) c h.cone i j (row_in i j p) (column_in i j p) true at f)
 
+-- a root that is within its limits
+pub root_fits : (n : ℕ) (q : Matrix) (c : ShownCone) → IsConeAt n q [] c → IsWithinLimits c → Fits n q unit_vectors
+unfolding cone_from
+root_fits n q c at w = fits_at n q [] c at w
+
 -- ---- the child of a cone at its path
 pub reaches_child : (c : ShownCone) (i j : ℕ) (side : Bool) (result : Result ShownCone ConeFail)
     → IfOk result (IsChild c i j side) → IfErr result (IsWideWhere (IsFirstWide c i j side)) → ReachesChild c i j side result
 reaches_child c i j side (Ok d) made wide q h p = child_at_path c.size q c.path c h i j side d p made
 reaches_child c i j side (Err (Wide at)) made wide q h p = record { path_is = wide.path_is; entry = wide_at_path c.size q c.path c h i j side at p wide }
 reaches_child c i j side (Err OutOfMemory) made wide q h p = wide
+
+pub shows_child : (c : ShownCone) (i j : ℕ) (side : Bool) (result : Result ShownCone ConeFail) → i < c.size → j < c.size
+    → IfOk result (IsChild c i j side) → IfErr result (IsWideWhere (IsFirstWide c i j side)) → ShowsChild c i j side result
+shows_child c i j side (Ok d) li lj made wide q v h = child_of c.size q v c h i j li lj side d made
+shows_child c i j side (Err (Wide at)) li lj made wide q v h = wide_of c.size q v c h i j li lj side at wide
+shows_child c i j side (Err OutOfMemory) li lj made wide q v h = wide
+
+pub exact_child : (c : ShownCone) (i j : ℕ) (side : Bool) (d : ShownCone) → i < j → j < c.size → IsChild c i j side d → IsExactChild c i j side d
+exact_child c i j side d lt lj made q v h = child_of c.size q v c h i j (omega arith) lj side d made

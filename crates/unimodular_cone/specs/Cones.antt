@@ -5,15 +5,21 @@
 --     value n q v k              Q[v_k]
 --     IsPair n g i j             (i, j) is the least negative entry of g with i < j, the first one among equals
 --     pair_of n g                that pair, None where no entry beside the diagonal is negative
+--     lesser_pair g b i j        (i, j), if its entry is less than that of b, or negative where b is None; else b
+--     best_in_row, best_in_rows  the pair so far, after the places of a row, and of the first rows
 --     child v i j                v_i becomes v_i + v_j
 --     child_on v i j side        child 0 of the pair, child v i j, or child 1, child v j i
 --     child_gram g i j           g after row j is added to row i, and then column j to column i: the child's Gram matrix
+--     child_gram_on g i j side   the same for child 0 or child 1 of the pair
+--     child_at pair v side       child 0 or child 1 of the pair, v where it is None
 --     next_cone n q v side       child 0 or child 1 at the cone's pair
+--     cone_from n q v path       the cone that the path's digits reach from v
 --     cone_at n q path           the cone that the path reaches from the root
 --     IsOverLimit n v g entry    that coordinate of v or entry of g is over its limit
 --     FitsLimits n v g           no entry is
---     IsFirstOverLimit           the first entry that is: coordinates by generator and place, then Gram entries row by row
---     IsOver, Fits, IsFirstOver  the same of generators v and their Gram matrix for Q
+--     StandsBefore e f           the order of entries: coordinates by generator and place, then Gram entries row by row
+--     IsFirstOverLimit           the first entry that is over its limit, in this order
+--     Fits, IsFirstOver          the same of generators v and their Gram matrix for Q
 --     LiesIn n v x               x is a combination of the generators with nonnegative integer coefficients
 use Rattle.std.specs.Prelude.{Option, Some, None, ℕ, zero, suc, ℤ, pos, ◌+ℤ◌, ◌≤ℤ◌, ◌<ℤ◌, ◌<◌, ◌≤◌, ◌≡◌, ◌⊎◌, Bool, true, false, cond, eqb, ltb, [], ◌∷◌, nat_abs, ◌^◌, int_lt}
 use Rattle.exact_forms.specs.Forms.{bilinear, combination}
@@ -42,14 +48,14 @@ pub record IsPair (n : ℕ) (g : Matrix) (i j : ℕ) : Type 0 where
   pub least : (k l : ℕ) → k < l → l < n → g i j ≤ℤ g k l
   pub first : (k l : ℕ) → k < l → l < n → g k l ≡ g i j → (i < k) ⊎ ((i ≡ k) × (j ≤ l))
 
-abbrev pub better : Matrix → Option (ℕ × ℕ) → ℕ → ℕ → Option (ℕ × ℕ)
-better g None i j = cond (int_lt (g i j) (pos 0)) (Some (i, j)) None
-better g (Some (k, l)) i j = cond (int_lt (g i j) (g k l)) (Some (i, j)) (Some (k, l))
+abbrev pub lesser_pair : Matrix → Option (ℕ × ℕ) → ℕ → ℕ → Option (ℕ × ℕ)
+lesser_pair g None i j = cond (int_lt (g i j) (pos 0)) (Some (i, j)) None
+lesser_pair g (Some (k, l)) i j = cond (int_lt (g i j) (g k l)) (Some (i, j)) (Some (k, l))
 
 -- the best of b and of the places (i, j) of row i with i < j < m
 abbrev pub best_in_row : Matrix → ℕ → ℕ → Option (ℕ × ℕ) → Option (ℕ × ℕ)
 best_in_row g i zero b = b
-best_in_row g i (suc j) b = let r = best_in_row g i j b in cond (ltb i j) (better g r i j) r
+best_in_row g i (suc j) b = let r = best_in_row g i j b in cond (ltb i j) (lesser_pair g r i j) r
 
 abbrev pub best_in_rows : Matrix → ℕ → ℕ → Option (ℕ × ℕ)
 best_in_rows g n zero = None
@@ -98,7 +104,6 @@ IsOverLimit n v g (Coordinate (suc k) zero) = ⊥
 IsOverLimit n v g (Gram zero j) = ⊥
 IsOverLimit n v g (Gram (suc i) zero) = ⊥
 
--- coordinates by generator and place, then Gram entries in lower triangle order
 abbrev pub StandsBefore : WideEntry → WideEntry → Type 0
 StandsBefore (Coordinate k p) (Coordinate l r) = (k < l) ⊎ ((k ≡ l) × (p < r))
 StandsBefore (Coordinate k p) (Gram i j) = Unit {0}
@@ -111,9 +116,6 @@ FitsLimits n v g = (entry : WideEntry) → ¬ IsOverLimit n v g entry
 pub record IsFirstOverLimit (n : ℕ) (v : Generators) (g : Matrix) (entry : WideEntry) : Type 0 where
   pub over : IsOverLimit n v g entry
   pub first : (other : WideEntry) → StandsBefore other entry → ¬ IsOverLimit n v g other
-
-abbrev pub IsOver : ℕ → Matrix → Generators → WideEntry → Type 0
-IsOver n q v entry = IsOverLimit n v (gram n q v) entry
 
 abbrev pub Fits : ℕ → Matrix → Generators → Type 0
 Fits n q v = FitsLimits n v (gram n q v)

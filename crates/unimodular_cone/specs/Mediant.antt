@@ -5,6 +5,7 @@
 --     IsRowOf c r s row      row has the child's Gram entries in the row of the mediant
 --     FitsWith c r s         no entry of that child is over its limit
 --     IsFirstOverWith        the first entry of it that is
+--     HoldsFirstAt n P k     P holds of k, which is below n, and of no lesser number
 --     IsFirstBelow n P k     k is the first number below n with P, None where there is none
 --     wide_gram r k          the entry of the lower triangle at r and k, from 0
 use Rattle.std.specs.Prelude.{ℕ, ℤ, pos, ◌+ℤ◌, max, min, ◌+◌, ◌<◌, ◌≡◌, List, Option, Some, None, slice_index_or}

@@ -5,6 +5,8 @@
 --     unpacked k word       the k digits of a word
 --     unpacked_words words  the digits of all words
 --     digits_of, fields_of  from the fields to the path, and back
+--     IsPacked p            at most 200 digits, and the words are those of the digits
+--     fields_back p         then the way from the fields to the path and back gives the fields
 use Rattle.std.specs.Prelude.{ℕ, zero, suc, ◌+◌, ◌%◌, ◌^◌, ◌≤◌, ◌≡◌, nat_le, cond, List, [], ◌∷◌, ◌++◌, Bool, length, take, drop}
 use Rattle.unimodular_cone.specs.declared.path.Path.TheInside.{Inside}
 

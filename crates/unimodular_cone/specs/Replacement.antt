@@ -2,6 +2,7 @@
 --
 --     IsChildWith c r s path d       d shows that child, and the path
 --     IsFirstWideWith c r s path at  the first entry of that child over its limit, and the path
+--     IsPartRowSet k r old row new   the same as far as the first k numbers of the row
 --     IsRowSet n r old row new       the lower triangle new is old with row and column r taken from row
 use Rattle.std.specs.Prelude.{ℕ, ℤ, pos, ◌+◌, ◌<◌, ◌≤◌, ◌≡◌, ◌≢◌, List, length, slice_index_or}
 use Rattle.exact_forms.specs.Triangles.{triangle}

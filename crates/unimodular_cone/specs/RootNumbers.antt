@@ -1,6 +1,7 @@
 -- The numbers of the root's cone as they are kept.
 --
 --     IsLowerOf q n lower       the first n rows of lower are those of Q, up to the diagonal
+--     IsPartRowCopied q i k old new   the first k entries of row i of new are those of Q, and the rows before it are those of old
 --     IsRowCopied q i old new   row i of new is that of Q, and the rows before it are those of old
 --     AreUnitRows k rows        the first k of the rows are unit vectors, and the others are zero
 use Rattle.std.specs.Prelude.{ℕ, ℤ, pos, ◌+◌, ◌<◌, ◌≤◌, ◌≡◌, ◌≢◌, List, [], length, slice_index_or}

@@ -10,11 +10,15 @@
 --     IsConeAt n q path c         c shows the cone that the path reaches, and the path
 --     IsChild c i j side d        d shows the child of c on a side of (i, j), and its path
 --     IsFirstWide c i j side at   the first entry over its limit in that child, with the child's path
+--     FitsOnSide c i j side       no entry of that child is over its limit
 --     FitsOnBothSides c i j       no entry of either child is over its limit
 --     IsFirstWideBelow c i j at   the first entry over its limit in child 0, and if it fits in child 1
 --     IsFirstWideAt n q path at   the first entry over its limit in the cone that the path reaches, with the path
 --     IsReachable n q path        each cone above the path has a pair and fits
 --     IsWideWhere P fail          the failure is an entry over its limit with P, and not want of memory
+--     IsExactChild c i j side d   where c shows generators and their Gram matrix for Q, d shows those of the child
+--     ShowsChild c i j side r     where c shows generators and their Gram matrix for Q, so does the answer r those of the child, or
+--                                 it is the child's first entry over its limit
 --     ReachesChild c i j side r   at a cone at its path and its pair, the answer r is the cone at the child's path, or its
 --                                 first entry over its limit
 --     NamesPair c pair            the pair of c, from 1; None where no entry beside the diagonal is negative
@@ -94,6 +98,16 @@ pub record IsFirstWideAt (n : ℕ) (q : Matrix) (path : Path) (at : WideAt) : Ty
 pub record IsReachable (n : ℕ) (q : Matrix) (path : Path) : Type 0 where
   pub pair : (a : Path) → IsAbove a path → pair_of n (gram n q (cone_at n q a)) ≢ None
   pub fits : (a : Path) → IsAbove a path → Fits n q (cone_at n q a)
+
+-- where c shows the generators v and their Gram matrix for Q, d shows those of the child
+abbrev pub IsExactChild : ShownCone → ℕ → ℕ → Bool → ShownCone → Type 0
+IsExactChild c i j side d = (q : Matrix) (v : Generators) → IsConeOf c.size q v c → IsConeOf c.size q (child_on v i j side) d
+
+-- where c shows the generators v and their Gram matrix for Q, the answer shows those of the child, or is the child's first entry
+-- over its limit
+abbrev pub ShowsChild : ShownCone → ℕ → ℕ → Bool → Result ShownCone ConeFail → Type 0
+ShowsChild c i j side result = (q : Matrix) (v : Generators) → IsConeOf c.size q v c
+    → MatchResult result (IsConeOf c.size q (child_on v i j side)) (IsWideWhere (λ at. IsFirstOver c.size q (child_on v i j side) at.entry))
 
 -- where c is the cone at its path and (i, j) its pair, the child is the cone at the child's path, or that one's first
 -- entry over its limit is the answer

@@ -2,10 +2,13 @@
 --
 --     ChildrenCover         a nonnegative integer combination of a cone's generators lies in a child: in child 0 of (i, j) where
 --                           its j-th coefficient is at least the i-th, in child 1 where the i-th is at least the j-th
+--     CoversOnBothSides     both cases of this, for one combination
+--     IsNonzeroBelow n x, IsGenerator n v x   x is not zero below n; x is a generator of v
+--     HasBound n q v b x    Q[x] is at least b, and b at generators alone
 --     ClosedBounds          in a cone that is closed at b of at least 1, each nonzero combination with nonnegative integer
 --                           coefficients has a value of at least b, and b at generators alone; in one that is closed at 0,
 --                           no such combination has a negative value
---     AtMostOneFinalBound, AtMostOneFirstLow, AtMostOneFirstOpen, AtMostOneAnswer
+--     AtMostOneFinalBound, AtMostOneFirstLow, AtMostOneFirstOpen, AtMostOneSearchAnswer
 --                           two values with the relation are equal
 --     FoundIsMinimum        Found carries the copositive minimum and its minimal vectors
 --     CopositiveHolds       Copositive is answered of copositive matrices alone
@@ -54,8 +57,8 @@ AtMostOneFirstLow = (m : Mode) (n : ℕ) (q : Matrix) (d : ℕ) (p r : Path) →
 abbrev pub AtMostOneFirstOpen : Type 0
 AtMostOneFirstOpen = (n : ℕ) (q : Matrix) (d : ℕ) (b : ℤ) (p r : Path) → IsFirstOpen n q d b p → IsFirstOpen n q d b r → p ≡ r
 
-abbrev pub AtMostOneAnswer : Type 0
-AtMostOneAnswer = (m : Mode) (n : ℕ) (q : Matrix) (d : ℕ) (a b : SearchAnswer) → IsSearchAnswer m n q d a → IsSearchAnswer m n q d b → a ≡ b
+abbrev pub AtMostOneSearchAnswer : Type 0
+AtMostOneSearchAnswer = (m : Mode) (n : ℕ) (q : Matrix) (d : ℕ) (a b : SearchAnswer) → IsSearchAnswer m n q d a → IsSearchAnswer m n q d b → a ≡ b
 
 abbrev pub FoundIsMinimum : Type 0
 FoundIsMinimum = (n : ℕ) (q : Matrix) (d : ℕ) (b : ℤ) (vectors : List (List ℕ)) → IsSymmetric n q → IsSearchAnswer Least n q d (Found b vectors) → IsMinimum n q b vectors

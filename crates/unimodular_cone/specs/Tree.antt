@@ -1,11 +1,16 @@
 -- The tree of a search, with n and Q, a mode and a depth D.
+--
 --     Mode                        the sign of Q's values, or their least
 --     CanSplit n q v              v has a pair and both children fit
 --     IsInTree n q d path         at most d digits, and each cone above it can split
 --     IsLowValue m z              z is below 0 (Sign), at most 0 (Least)
 --     IsLow, IsFirstLowAt         some generator is low; k is the first that is
+--     IsClosedAt n q path b       each slack of the cone at the path is at least b
+--     IsLeastInTree n q d b       b is the least generator value over the tree
 --     IsFinalBound m n q d b      0 in Sign; in Least the least generator value over the tree
 --     IsFirstLow m n q d path     the low path of the tree that comes first by depth
+--     IsFirstOverBelow n q path at_path entry   the first entry over its limit in child 0, and if that fits in child 1, and its path
+--     HasWideChild n q path       a child does not fit
 --     IsOpen n q d b path         d digits or a child that does not fit, and neither it nor a cone above it is closed at b
 --     IsFirstOpen n q d b path    the open path that comes first by place
 use Rattle.std.specs.Prelude.{Some, ℕ, ℤ, pos, ◌≤ℤ◌, ◌<ℤ◌, ◌<◌, ◌≤◌, ◌≡◌, ◌⊎◌, Bool, [], ◌∷◌, ◌++◌, length}
@@ -38,7 +43,6 @@ pub record IsFirstLowAt (m : Mode) (n : ℕ) (q : Matrix) (v : Generators) (k : 
   pub low : IsLowValue m (value n q v k)
   pub first : (l : ℕ) → l < k → ¬ IsLowValue m (value n q v l)
 
--- closed at b: each slack is at least b
 abbrev pub IsClosedAt : ℕ → Matrix → Path → ℤ → Type 0
 IsClosedAt n q path b = IsClosed n (gram n q (cone_at n q path)) b
 
@@ -55,7 +59,6 @@ pub record IsFirstLow (m : Mode) (n : ℕ) (q : Matrix) (d : ℕ) (path : Path) 
   pub low : IsLow m n q (cone_at n q path)
   pub first : (other : Path) → IsInTree n q d other → IsLow m n q (cone_at n q other) → IsNoDeeper path other
 
--- the first entry over its limit in child 0, and if it fits in child 1
 pub record IsFirstOverBelow (n : ℕ) (q : Matrix) (path : Path) (at_path : Path) (entry : WideEntry) : Type 0 where
   pub i : ℕ
   pub j : ℕ
@@ -63,7 +66,6 @@ pub record IsFirstOverBelow (n : ℕ) (q : Matrix) (path : Path) (at_path : Path
   pub in_child : ((at_path ≡ path ++ Bool.false ∷ []) × IsFirstOver n q (child (cone_at n q path) i j) entry)
       ⊎ (Fits n q (child (cone_at n q path) i j) × (at_path ≡ path ++ Bool.true ∷ []) × IsFirstOver n q (child (cone_at n q path) j i) entry)
 
--- a child does not fit
 abbrev pub HasWideChild : ℕ → Matrix → Path → Type 0
 HasWideChild n q path = (at_path : Path) × (entry : WideEntry) × IsFirstOverBelow n q path at_path entry
 

@@ -3,7 +3,7 @@
 ghost use Rattle.std.specs.Prelude.{◌≡◌, ◌≢◌, ◌≤◌, ◌<◌, ◌-◌, [], ◌∷◌, ◌++◌, true, false, length, nat_eq, None, IfOk, IfErr};
 ghost use Rattle.symmetric_matrix.specs.Symmetric.{entry};
 ghost use Rattle.unimodular_cone.specs.Mediant.{FitsWith, IsMediantOf, AreProducts};
-ghost use Rattle.unimodular_cone.specs.Shown.{FitsOnSide, FitsOnBothSides, shown_gram, IsWithinLimits, IsConeAt, IsChild, IsFirstWide, IsFirstWideAt, IsReachable, IsWideWhere, NamesPair, ReachesChild, IsNext, IsFirstWideNext};
+ghost use Rattle.unimodular_cone.specs.Shown.{FitsOnSide, FitsOnBothSides, shown_gram, IsWithinLimits, IsConeAt, IsChild, IsFirstWide, IsFirstWideAt, IsReachable, IsWideWhere, NamesPair, ReachesChild, IsExactChild, ShowsChild, IsNext, IsFirstWideNext};
 ghost use Rattle.unimodular_cone.specs.Replacement.{IsChildWith, IsFirstWideWith, IsRowSet};
 
 use crate::cone_read::ConeRead;
@@ -53,6 +53,8 @@ impl Cone {
         requires fits { FitsOnBothSides self.old (i - 1) (j - 1) }
         ensures zero { IsChild self.old (i - 1) (j - 1) false result }
         ensures one { IsChild self.old (i - 1) (j - 1) true self.new }
+        ensures exact_zero { IsExactChild self.old (i - 1) (j - 1) false result }
+        ensures exact_one { IsExactChild self.old (i - 1) (j - 1) true self.new }
     {
         let (r, s) = (i - 1, j - 1);
         let coordinates = mediant_coordinates(self, r, s);
@@ -74,7 +76,8 @@ impl Cone {
         requires digit { side < 2 }
         requires room { length self.old.path < 200 }
         requires fits { FitsOnSide self.old (i - 1) (j - 1) (nat_eq side 1) }
-        ensures { IsChild self.old (i - 1) (j - 1) (nat_eq side 1) self.new }
+        ensures made { IsChild self.old (i - 1) (j - 1) (nat_eq side 1) self.new }
+        ensures exact { IsExactChild self.old (i - 1) (j - 1) (nat_eq side 1) self.new }
     {
         if side == 0 {
             self.replace(i - 1, j - 1, side);
@@ -194,6 +197,7 @@ pub fn child(c: &Cone, i: u8, j: u8, side: u8) -> Result<Cone, ConeFail>
     ensures made { IfOk result (IsChild c.now (i - 1) (j - 1) (nat_eq side 1)) }
     ensures fits { IfOk result IsWithinLimits }
     ensures wide { IfErr result (IsWideWhere (IsFirstWide c.now (i - 1) (j - 1) (nat_eq side 1))) }
+    ensures exact { ShowsChild c.now (i - 1) (j - 1) (nat_eq side 1) result }
     ensures reached { ReachesChild c.now (i - 1) (j - 1) (nat_eq side 1) result }
 {
     child_on(c, i - 1, j - 1, side)

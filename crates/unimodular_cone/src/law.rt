@@ -1,6 +1,6 @@
 //! What holds of all cones and of every search's answer. Each call does nothing: its contract is the law.
 
-ghost use Rattle.unimodular_cone.specs.Theorems.{ChildrenCover, ClosedBounds, AtMostOneFinalBound, AtMostOneFirstLow, AtMostOneFirstOpen, AtMostOneAnswer, FoundIsMinimum, CopositiveHolds, LowHasItsValue, PairIsFirstLeast};
+ghost use Rattle.unimodular_cone.specs.Theorems.{ChildrenCover, ClosedBounds, AtMostOneFinalBound, AtMostOneFirstLow, AtMostOneFirstOpen, AtMostOneSearchAnswer, FoundIsMinimum, CopositiveHolds, LowHasItsValue, PairIsFirstLeast};
 
 /// A nonnegative integer combination of a cone's generators lies in a child, again with nonnegative integer
 /// coefficients: in child 0 of (i, j) where its j-th coefficient is at least the i-th, in child 1 where the i-th is at
@@ -32,7 +32,7 @@ pub fn at_most_one_first_open()
 
 /// A search has at most one answer.
 pub fn at_most_one_answer()
-    ensures { AtMostOneAnswer }
+    ensures { AtMostOneSearchAnswer }
 {}
 
 /// The answer Found carries the copositive minimum and exactly its minimal vectors.

@@ -1,12 +1,12 @@
 use Rattle.std.proofs.Common.{◌≡◌, refl, Err}
 use Rattle.symmetric_matrix.specs.Owed.{answer}
 use Rattle.matrix_text.specs.Clearing.{is_placed_owed, clear_ops, cleared_of}
+use Rattle.cpfactor_lines.specs.declared.owed.Owed.TheVariants.{Clear}
 use Rattle.cpfactor_top.specs.declared.ended.Cause.TheVariants.{Overflow}
-use Rattle.cpfactor_top.specs.declared.ended.Owed.TheVariants.{Clear}
-use Rattle.cpfactor_top.specs.Ending.{ending}
-use Rattle.cpfactor_top.specs.Texts.{owed_text}
-use Rattle.cpfactor_top.specs.Given.{IsClearText}
-use Rattle.cpfactor_top.proofs.Endings.{ends_by_only}
+use Rattle.cpfactor_top.specs.Causes.{ending, refusal_text}
+use Rattle.cpfactor_top.specs.Outcomes.{Refuses}
+use Rattle.cpfactor_top.specs.Given.{IsClearRefused}
+use Rattle.cpfactor_top.proofs.OutcomeLaws.{ends_by_only}
 use Rattle.symmetric_matrix.proofs.Owed.{some_of_err}
 use Rattle.cpfactor_top.proofs.ClearedEntries.{cleared_positive}
 use Rattle.cpfactor_top.proofs.given.clear_or_refuse.Goals as goal
@@ -17,6 +17,6 @@ returns-in-Ok-clause-positive g c = cleared_positive c.args.a.now c.in-Ok.made.0
 pub returns-in-Err-Wide-clause-refused : goal.returns-in-Err-Wide-clause-refused
 returns-in-Err-Wide-clause-refused g c =
     let refused : answer is_placed_owed (clear_ops c.args.a.now) (cleared_of c.args.a.now) ≡ Err (record { row = c.in-Err-Wide.row; column = c.in-Err-Wide.column; op = c.in-Err-Wide.op }) = rw c.in-Err-Wide.field-0-is at c.in-Err-Wide.ensures.wide in
-    ends_by_only (IsClearText c.args.a.now) (ending (Overflow (Clear c.in-Err-Wide.row c.in-Err-Wide.column c.in-Err-Wide.op))) (owed_text (Clear c.in-Err-Wide.row c.in-Err-Wide.column c.in-Err-Wide.op))
-    _ c.refuse_overflow.result
-    (record { refused = record { op = _; first = some_of_err is_placed_owed (clear_ops c.args.a.now) (cleared_of c.args.a.now) _ refused; ended = refl }; written = refl }) c.refuse_overflow.ensures
+    let cause = Overflow (Clear c.in-Err-Wide.row c.in-Err-Wide.column c.in-Err-Wide.op) in
+    ends_by_only (Refuses (IsClearRefused c.args.a.now)) (ending cause) (refusal_text cause) _ c.refuse.result
+    (record { op = _; first = some_of_err is_placed_owed (clear_ops c.args.a.now) (cleared_of c.args.a.now) _ refused; ended = refl }, refl) c.refuse.ensures

@@ -1,36 +1,47 @@
-use Rattle.std.proofs.Common.{◌≡◌, ◌<◌, ◌∙◌, ℕ, List, length, refl, ap, subst, inl, inr}
-use Rattle.std.specs.Prelude.{Some, Option, IfSome}
-use Rattle.cp_outside.specs.Faults.{Rose}
-use Rattle.cpfactor_top.specs.declared.ended.Cause.TheVariants.{TooLong, ReadFault}
-use Rattle.cpfactor_top.specs.Ending.{ending}
-use Rattle.cpfactor_top.specs.Requests.{request_of}
-use Rattle.cpfactor_top.specs.Texts.{too_long_text, read_text}
-use Rattle.cpfactor_top.specs.Answers.{text_limit, file_of, answers_of, AreRead, IsBytesAnswer, IsFileAnswer, outside}
-use Rattle.cpfactor_top.proofs.Endings.{ends_by_follows, ends_by_only}
+use Rattle.std.proofs.Common.{◌∙◌, ℕ, List, sym, subst, refl}
+use Rattle.cpfactor_lines.specs.Requests.{request_of}
+use Rattle.cpfactor_top.specs.Files.{FileShown, file_shown, Encloses, matrix_file, IsRead, IsFileAnswer}
+use Rattle.cpfactor_top.specs.Answers.{answers_of_matrix, answers_of, IsBytesAnswer}
+use Rattle.cpfactor_top.proofs.FileLaws.{is_read, stays_at_all, never_falls_at_all, refl_le, unless_failed}
+use Rattle.cpfactor_top.proofs.OutcomeLaws.{ends_by_follows}
+use Rattle.cpfactor_top.proofs.RequestLaws.{file_among, request_enclosed}
 use Rattle.cpfactor_top.proofs.program.answer_command.Goals as goal
 
-if_some : (P : List ℕ → Type 0) (o : Option (List ℕ)) (held : List ℕ) → o ≡ Some held → IfSome o P → P held
-if_some P o held e h = subst (λ (o : Option (List ℕ)). IfSome o P) e h
-
-pub returns-in-Whole : goal.returns-in-Whole
-returns-in-Whole g c =
-    let file = (outside (g.F.Files.told c.args.files.now) (g.F.Files.faults c.args.files.now) (g.F.Files.faults c.read_file.new.self) (file_of (request_of c.args.command))) in
-    let bytes = c.read_file.new.into.items in
-    let read : AreRead file bytes = record {
-      within = c.in-Whole.ensures.within_limit;
-      told = λ held h. if_some (λ b. bytes ≡ b) (g.F.Files.told c.args.files.now c.file_named.result.now) held (ap (g.F.Files.told c.args.files.now) c.file_named.ensures ∙ h) c.in-Whole.ensures.whole;
+pub returns-clause-ended : goal.returns-clause-ended
+returns-clause-ended g c =
+    let name = c.file_named.result.now in
+    let at : List ℕ → FileShown = file_shown g.F.Files c.args.files.now c.read_file-end.new.self in
+    let got : IsRead matrix_file (at name) c.read_file-end.result c.read_file-end.new.into.items =
+    is_read matrix_file (at name) c.read_file-end.result c.read_file-end.new.into.items c.read_file-end.ensures.whole c.read_file-end.ensures.within_limit c.read_file-end.ensures.too_long c.read_file-end.ensures.failed in
+    let read = subst (IsRead matrix_file (at name) c.read_file-end.result) (sym c.deref.ensures.value) got in
+    let request = request_of c.args.command in
+    let part : List ℕ → FileShown = file_shown g.F.Files c.read_file-end.new.self c.answer_read.new.files in
+    let files : List ℕ → FileShown = file_shown g.F.Files c.args.files.now c.answer_read.new.files in
+    let all : (n : List ℕ) → Encloses (files n) (part n) = λ n. record {
+      told = c.read_file-end.ensures.told_stays n;
+      before = never_falls_at_all (g.F.Files.faults c.args.files.now) (g.F.Files.faults c.read_file-end.new.self) name c.read_file-end.ensures.never_falls c.read_file-end.ensures.others_stay n;
+      after = refl_le (g.F.Files.faults c.answer_read.new.files n);
     } in
-    ends_by_follows (IsBytesAnswer (answers_of (request_of c.args.command)) c.deref.result.now) (IsFileAnswer (answers_of (request_of c.args.command)) file) _
-    (λ e text h. inl (bytes, read, subst (λ (b : List ℕ). IsBytesAnswer (answers_of (request_of c.args.command)) b e text) c.deref.ensures.value h)) _ c.answer_bytes.ensures
+    let first : Encloses (files name) (at name) = record {
+      told = refl;
+      before = refl_le (g.F.Files.faults c.args.files.now name);
+      after = c.answer_read.ensures.never_falls name;
+    } in
+    let same = c.file_named.ensures in
+    ends_by_follows (IsFileAnswer matrix_file (IsBytesAnswer (answers_of_matrix part request)) (at name)) (answers_of request files) _
+    (λ e text h. request_enclosed files part all request (at name) (subst (λ (n : List ℕ). Encloses (files n) (at name)) same first) e text h) _
+    (c.answer_read.ensures.ended (at name) read)
 
-pub returns-in-TooLong : goal.returns-in-TooLong
-returns-in-TooLong g c =
-    let file = (outside (g.F.Files.told c.args.files.now) (g.F.Files.faults c.args.files.now) (g.F.Files.faults c.read_file.new.self) (file_of (request_of c.args.command))) in
-    ends_by_only (IsFileAnswer (answers_of (request_of c.args.command)) file) (ending TooLong) too_long_text _ _
-    (inr (inl (record { long = λ held h. if_some (λ b. text_limit < length b) (g.F.Files.told c.args.files.now c.file_named.result.now) held (ap (g.F.Files.told c.args.files.now) c.file_named.ensures ∙ h) c.in-TooLong.ensures.too_long; ended = refl; written = refl }))) c.refuse.ensures
+pub returns-clause-told_stays : goal.returns-clause-told_stays
+returns-clause-told_stays g c name = c.answer_read.ensures.told_stays name ∙ c.read_file-end.ensures.told_stays name
 
-pub returns-in-Failed : goal.returns-in-Failed
-returns-in-Failed g c =
-    let file = (outside (g.F.Files.told c.args.files.now) (g.F.Files.faults c.args.files.now) (g.F.Files.faults c.read_file.new.self) (file_of (request_of c.args.command))) in
-    ends_by_only (IsFileAnswer (answers_of (request_of c.args.command)) file) (ending ReadFault) read_text _ _
-    (inr (inr (record { rose = subst (λ n. Rose (g.F.Files.faults c.args.files.now n) (g.F.Files.faults c.read_file.new.self n)) c.file_named.ensures c.in-Failed.ensures.failed; ended = refl; written = refl }))) c.refuse-in-Failed.ensures
+pub returns-clause-others_stay : goal.returns-clause-others_stay
+returns-clause-others_stay g c name unnamed =
+    c.answer_read.ensures.others_stay name unnamed
+    ∙ c.read_file-end.ensures.others_stay name (λ e. file_among (request_of c.args.command) name unnamed (e ∙ c.file_named.ensures))
+
+pub returns-clause-quiet : goal.returns-clause-quiet
+returns-clause-quiet g c undisturbed name =
+    c.answer_read.ensures.quiet undisturbed name
+    ∙ stays_at_all (g.F.Files.faults c.args.files.now) (g.F.Files.faults c.read_file-end.new.self) c.file_named.result.now
+    (unless_failed c.read_file-end.result _ (λ e. c.answer_read.ensures.disturbed e undisturbed) c.read_file-end.ensures.quiet) c.read_file-end.ensures.others_stay name

@@ -1,6 +1,6 @@
 use Rattle.cpfactor_top.specs.Searching.{IsSearched, IsSearchDue}
 use Rattle.cpfactor_top.specs.Answers.{IsBytesAnswer}
-use Rattle.cpfactor_top.proofs.Endings.{ends_yield, ends_with_status}
+use Rattle.cpfactor_top.proofs.OutcomeLaws.{ends_yield, ends_with_status}
 use Rattle.cpfactor_top.proofs.AnswerLaws.{searching, bytes_is_due, bytes_due_once, bytes_status}
 use Rattle.cpfactor_top.proofs.searching.minimum_alone.Goals as goal
 

@@ -8,7 +8,7 @@ use Rattle.symmetric_matrix.specs.Symmetric.{entry}
 use Rattle.symmetric_matrix.specs.StartVectors.{start_runs, start_list, run_vector}
 use Rattle.symmetric_matrix.specs.StartWeights.{start_weight}
 use Rattle.cpfactor_top.specs.StartCone.{start_terms}
-use Rattle.cpfactor_top.proofs.StartTerms.{run_at, IsMade, none_made, more_made, all_made, next_is_after, negative_at, length-list, length-weights, weight_at, vector_at}
+use Rattle.cpfactor_top.proofs.StartTerms.{run_at, IsMade, none_made, more_made, all_made, next_is_after, negative_at, length-list, length-weights, weight_at, start_vector_at}
 use Rattle.cpfactor_top.proofs.start_terms.start_terms.Goals as goal
 
 pub loop-k-init : goal.loop-k-init
@@ -38,7 +38,7 @@ push_positive-requires-clause-greater c =
     let inside : c.loop-k.k < length (start_runs c.args.s.now.size) = omega (arith, count, c.loop-k-test.true) in
     let vector : c.at.result.now ≡ run_vector s.size (run_at s.size c.loop-k.k) =
     sym (get_or_from_slice_get c.in_ok-vectors.vectors c.loop-k.k c.at.result.now [] c.at.ensures)
-    ∙ ap (λ (vs : List (List ℕ)). get_or vs c.loop-k.k []) (c.in_ok-vectors.ensures.list ∙ ap start_list c.n.ensures.value) ∙ vector_at s.size c.loop-k.k [] inside in
+    ∙ ap (λ (vs : List (List ℕ)). get_or vs c.loop-k.k []) (c.in_ok-vectors.ensures.list ∙ ap start_list c.n.ensures.value) ∙ start_vector_at s.size c.loop-k.k [] inside in
     next_is_after s (nat_abs (to_z w128 (of_z w128 c.args.d))) c.loop-k.k c.loop-k.terms c.at.result.now inside c.loop-k.invariant.0 vector
 
 pub loop-k-preserved : goal.loop-k-preserved
@@ -48,7 +48,7 @@ loop-k-preserved c =
     let inside : c.loop-k.k < length (start_runs c.args.s.now.size) = omega (arith, count, c.loop-k-test.true) in
     let vector : c.at.result.now ≡ run_vector s.size (run_at s.size c.loop-k.k) =
     sym (get_or_from_slice_get c.in_ok-vectors.vectors c.loop-k.k c.at.result.now [] c.at.ensures)
-    ∙ ap (λ (vs : List (List ℕ)). get_or vs c.loop-k.k []) (c.in_ok-vectors.ensures.list ∙ ap start_list c.n.ensures.value) ∙ vector_at s.size c.loop-k.k [] inside in
+    ∙ ap (λ (vs : List (List ℕ)). get_or vs c.loop-k.k []) (c.in_ok-vectors.ensures.list ∙ ap start_list c.n.ensures.value) ∙ start_vector_at s.size c.loop-k.k [] inside in
     let fits : to_z w128 (of_z w128 (get_or c.args.weights.now c.loop-k.k (pos 0))) ≡ get_or c.args.weights.now c.loop-k.k (pos 0) = search (rules, to_z-of_z) in
     let is : to_z w128 (of_z w128 (get_or c.args.weights.now c.loop-k.k (pos 0))) ≡ start_weight s.size (entry s) (run_at s.size c.loop-k.k) =
     fits ∙ ap (λ (ws : List ℤ). get_or ws c.loop-k.k (pos 0)) c.requires.weights ∙ weight_at s.size (entry s) c.loop-k.k (pos 0) inside in

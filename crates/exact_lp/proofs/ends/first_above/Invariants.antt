@@ -1,5 +1,5 @@
-use Rattle.exact_lp.proofs.Weighing.{IsAbove}
+use Rattle.exact_lp.proofs.Weighing.{IsFirstAboveFrom}
 use Rattle.exact_lp.proofs.ends.first_above.Given as goal
 
 abbrev pub invariant-loop-column : goal.invariant-loop-column
-invariant-loop-column l = IsAbove l.tableau l.row l.columns l.column-index
+invariant-loop-column l = IsFirstAboveFrom l.tableau l.row l.columns l.column-index

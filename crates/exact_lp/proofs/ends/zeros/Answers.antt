@@ -1,8 +1,7 @@
 use Rattle.std.proofs.Common.{◌≡◌, ◌∙◌, ◌+◌, sym, ap, arith, ℕ}
-use Rattle.exact_linear.specs.Tables.{rows_of}
-use Rattle.exact_lp.specs.Rule.{is_basic}
+use Rattle.exact_linear.proofs.Seeking.{gather_take, gather_skip, gather_done}
+use Rattle.exact_linear.specs.Tables.{rows_of, is_basic}
 use Rattle.exact_lp.specs.Placement.{zeros_of, is_basic_vector}
-use Rattle.exact_lp.proofs.Seeking.{gather_take, gather_skip, gather_done}
 use Rattle.exact_lp.proofs.Weighing.{zeros_start}
 use Rattle.exact_lp.proofs.ends.zeros.Goals as goal
 use Rattle.exact_lp.proofs.ends.zeros.Goals.{then-is_basic+in_ok-push, else-is_basic}

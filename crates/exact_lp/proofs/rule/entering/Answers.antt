@@ -1,7 +1,7 @@
 use Rattle.std.proofs.Common.{◌∙◌, sym, subst, arith, ◌+◌, ℕ}
+use Rattle.exact_linear.proofs.Seeking.{IsSeeking, seek_found, seek_more, seek_done}
 use Rattle.exact_linear.specs.Tables.{rows_of}
 use Rattle.exact_lp.specs.Rule.{entering, goes_down}
-use Rattle.exact_lp.proofs.Seeking.{IsSeeking, seek_found, seek_more, seek_done}
 use Rattle.exact_lp.proofs.Choices.{seek_entering, down_is}
 use Rattle.exact_lp.proofs.rule.entering.Goals as goal
 

@@ -1,7 +1,7 @@
 use Rattle.std.proofs.Common.{◌+◌}
+use Rattle.exact_linear.proofs.Seeking.{IsSeeking}
 use Rattle.exact_linear.specs.Tables.{rows_of}
 use Rattle.exact_lp.specs.Rule.{entering, goes_down}
-use Rattle.exact_lp.proofs.Seeking.{IsSeeking}
 use Rattle.exact_lp.proofs.rule.entering.Given as goal
 
 abbrev pub invariant-loop-column : goal.invariant-loop-column

@@ -1,7 +1,7 @@
 use Rattle.std.proofs.Common.{◌∙◌, ◌+◌, sym, arith}
-use Rattle.exact_linear.specs.Tables.{rows_of}
-use Rattle.exact_lp.specs.Rule.{is_basic, first_columns}
-use Rattle.exact_lp.proofs.Seeking.{gather_take, gather_skip, gather_done}
+use Rattle.exact_linear.proofs.Seeking.{gather_take, gather_skip, gather_done}
+use Rattle.exact_linear.specs.Tables.{rows_of, is_basic}
+use Rattle.exact_lp.specs.Rule.{first_columns}
 use Rattle.exact_lp.proofs.Choices.{columns_start}
 use Rattle.exact_lp.proofs.rule.first_columns.Goals as goal
 use Rattle.exact_lp.proofs.rule.first_columns.Goals.{then-is_basic+in_ok-push, else-is_basic}

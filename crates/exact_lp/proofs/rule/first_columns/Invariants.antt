@@ -1,7 +1,7 @@
 use Rattle.std.proofs.Common.{◌+◌}
-use Rattle.exact_linear.specs.Tables.{rows_of}
-use Rattle.exact_lp.specs.Rule.{is_basic, first_columns}
-use Rattle.exact_lp.proofs.Seeking.{IsGathered}
+use Rattle.exact_linear.proofs.Seeking.{IsGathered}
+use Rattle.exact_linear.specs.Tables.{rows_of, is_basic}
+use Rattle.exact_lp.specs.Rule.{first_columns}
 use Rattle.exact_lp.proofs.rule.first_columns.Given as goal
 
 abbrev pub invariant-loop-column : goal.invariant-loop-column

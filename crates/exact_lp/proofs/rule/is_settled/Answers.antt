@@ -1,7 +1,7 @@
 use Rattle.std.proofs.Common.{◌∙◌, sym, arith}
+use Rattle.exact_linear.proofs.Seeking.{seek_found, seek_more, seek_done}
 use Rattle.exact_linear.specs.Tables.{rows_of}
 use Rattle.exact_lp.specs.Rule.{is_below}
-use Rattle.exact_lp.proofs.Seeking.{seek_found, seek_more, seek_done}
 use Rattle.exact_lp.proofs.Choices.{seek_below, below_is, settled_not, settled_yes}
 use Rattle.exact_lp.proofs.rule.is_settled.Goals as goal
 

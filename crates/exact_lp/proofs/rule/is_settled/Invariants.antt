@@ -1,6 +1,6 @@
+use Rattle.exact_linear.proofs.Seeking.{IsSeeking}
 use Rattle.exact_linear.specs.Tables.{rows_of, first_place}
 use Rattle.exact_lp.specs.Rule.{is_below}
-use Rattle.exact_lp.proofs.Seeking.{IsSeeking}
 use Rattle.exact_lp.proofs.rule.is_settled.Given as goal
 
 abbrev pub invariant-loop-row : goal.invariant-loop-row

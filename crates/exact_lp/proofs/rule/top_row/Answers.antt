@@ -1,5 +1,5 @@
+use Rattle.exact_linear.specs.Tables.{row_of}
 use Rattle.exact_lp.proofs.Choices.{top_some, top_none, row_within_table}
-use Rattle.exact_lp.specs.Rule.{row_of}
 use Rattle.std.proofs.Common.{◌∙◌, ap, ℕ}
 use Rattle.exact_lp.proofs.rule.top_row.Goals as goal
 

@@ -6,8 +6,8 @@ use Rattle.exact_forms.specs.Rational.{whole}
 use Rattle.exact_lp.proofs.OneAnswer.{one_answer}
 use Rattle.exact_lp.proofs.Ruled.{ruled}
 use Rattle.exact_lp.proofs.Sound.{sound, leaving_rows, leaving_rows_as}
-use Rattle.exact_lp.proofs.SquareLists.{start_is, divisor, placed_as}
 use Rattle.exact_lp.proofs.simplex.place.Goals as goal
+use Rattle.exact_lp.proofs.Starting.{start_is, divisor, placed_as}
 
 pub place_on-requires-clause-width : goal.place_on-requires-clause-width
 place_on-requires-clause-width c = let S = start_is c.args.vectors.now c.args.s.now c.in-Ok.tableau c.n-n.ensures.matrix.positive c.in-Ok.ensures in let w = S.width in let v = c.len-vectors_len.ensures.value in omega arith

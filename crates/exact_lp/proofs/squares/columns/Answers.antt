@@ -1,7 +1,7 @@
 use Rattle.std.proofs.Common.{◌∙◌, ◌++◌, ◌∷◌, [], ap, arith}
 use Rattle.symmetric_matrix.specs.Symmetric.{Symmetric}
-use Rattle.exact_lp.specs.Squares.{square}
-use Rattle.exact_lp.proofs.SquareLists.{squares_more, squares_all, at_index}
+use Rattle.exact_linear.proofs.SquareLists.{squares_more, squares_all, at_index}
+use Rattle.exact_linear.specs.Squares.{square}
 use Rattle.exact_lp.proofs.squares.columns.Goals as goal
 
 pub loop-k-preserved : goal.loop-k-preserved

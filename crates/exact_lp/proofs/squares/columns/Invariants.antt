@@ -1,5 +1,5 @@
 use Rattle.std.proofs.Common.{◌≡◌}
-use Rattle.exact_lp.proofs.SquareLists.{squares_until}
+use Rattle.exact_linear.proofs.SquareLists.{squares_until}
 use Rattle.exact_lp.proofs.squares.columns.Given as goal
 
 abbrev pub invariant-loop-k : goal.invariant-loop-k

@@ -1,8 +1,8 @@
 use Rattle.std.proofs.Common.{◌≡◌, ◌∙◌, sym, subst, length, ℕ, List, ◌<◌}
 use Rattle.std.specs.Prelude.{slice_index_or}
 use Rattle.symmetric_matrix.specs.Symmetric.{Symmetric}
+use Rattle.exact_linear.proofs.SquareLists.{sizes}
 use Rattle.exact_linear.specs.Columns.{no_matrix}
-use Rattle.exact_lp.proofs.SquareLists.{sizes}
 use Rattle.exact_lp.proofs.squares.start.Goals as goal
 
 pub over_units-requires-clause-sizes : goal.over_units-requires-clause-sizes

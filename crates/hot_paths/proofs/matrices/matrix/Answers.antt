@@ -7,11 +7,11 @@ loop-index-init c =
     let none = ap length c.new-lower.ensures.items in
     record {
       rows = none ∙ sym triangle-zero;
-      narrow = λ k d lt. absurd (omega (arith, none));
+      fits = λ k d lt. absurd (omega (arith, none));
     }
 
 pub loop-index-preserved : goal.loop-index-preserved
 loop-index-preserved c = record {
   rows = let more = triangle_more c.loop-index.index in omega (arith, more, c.loop-index.invariant.rows, c.in_ok-push_entries.ensures.count);
-  narrow = c.in_ok-push_entries.ensures.narrow;
+  fits = c.in_ok-push_entries.ensures.fits;
 }

@@ -19,7 +19,7 @@ returns-in_err-lower-clause-wide c =
 pub from_lower-requires-clause-lower : goal.from_lower-requires-clause-lower
 from_lower-requires-clause-lower c =
     let same : to_z w128 (of_z w128 c.in_ok-denominator.denominator) ≡ c.in_ok-denominator.denominator = search (rules, to_z-of_z) in
-    lower_is c.args.a.now c.in_ok-denominator.denominator c.n.result c.in_ok-lower.lower.items c.deref.result.now c.n.ensures.matrix (rw same at c.in_ok-lower.ensures.ok) c.n.ensures.value c.deref.ensures.value c.in_ok-lower.ensures.narrow
+    lower_is c.args.a.now c.in_ok-denominator.denominator c.n.result c.in_ok-lower.lower.items c.deref.result.now c.n.ensures.matrix (rw same at c.in_ok-lower.ensures.ok) c.n.ensures.value c.deref.ensures.value c.in_ok-lower.ensures.fits
 
 pub returns-clause-ok : goal.returns-clause-ok
 returns-clause-ok c =

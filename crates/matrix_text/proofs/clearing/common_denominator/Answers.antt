@@ -30,7 +30,7 @@ loop-entry-preserved c =
     record {
       left = rw fits left;
       positive = rw fits positive;
-      narrow = rw fits narrow;
+      fits = rw fits narrow;
       row = row_after c.loop-entry.place c.next-place.result c.loop-entry.entry-index c.next-place.ensures c.loop-entry.invariant.row;
       column = column_after c.loop-entry.place c.next-place.result c.next-place.ensures c.loop-entry.invariant.column;
     }

@@ -10,7 +10,7 @@ pub loop-entry-init : goal.loop-entry-init
 loop-entry-init c = record {
   left = refl;
   so_far = over_none (nat_abs (to_z w128 (of_z w128 c.args.denominator))) c.args.a.now.lower c.new-lower.result.items c.new-lower.ensures.items;
-  narrow = λ k lt. absurd (let len = ap length c.new-lower.ensures.items in omega (arith, len));
+  fits = λ k lt. absurd (let len = ap length c.new-lower.ensures.items in omega (arith, len));
   row = omega arith;
   column = omega arith;
 }
@@ -42,7 +42,7 @@ loop-entry-preserved c =
           (numerators_over (nat_abs (to_z w128 (of_z w128 c.args.denominator))) c.args.a.now.lower) inside is ok.0 c.next-place.ensures ∙ c.loop-entry.invariant.left;
       so_far = over_more (nat_abs (to_z w128 (of_z w128 c.args.denominator))) c.args.a.now.lower c.loop-entry.entry-index c.entry-item.result c.in_ok-numerator_at.field-0 c.loop-entry.lower.items c.push.new.self.items inside is ok.1
           c.loop-entry.invariant.so_far pushed;
-      narrow = narrow_more c.loop-entry.lower.items c.push.new.self.items c.in_ok-numerator_at.field-0 pushed (product_narrow c.entry-item.result.num _ c.in_ok-numerator_at.field-0 ok.0 ok.1) c.loop-entry.invariant.narrow;
+      fits = narrow_more c.loop-entry.lower.items c.push.new.self.items c.in_ok-numerator_at.field-0 pushed (product_narrow c.entry-item.result.num _ c.in_ok-numerator_at.field-0 ok.0 ok.1) c.loop-entry.invariant.fits;
       row = row_after c.loop-entry.place c.next-place.result c.loop-entry.entry-index c.next-place.ensures c.loop-entry.invariant.row;
       column = column_after c.loop-entry.place c.next-place.result c.next-place.ensures c.loop-entry.invariant.column;
     }

@@ -1,8 +1,8 @@
 use Rattle.std.proofs.Common.{sym}
-use Rattle.matrix_text.specs.Square.{first_unlike}
+use Rattle.text_lines.specs.Square.{first_unlike}
 use Rattle.matrix_text.specs.Matrix.{none, same_number}
 use Rattle.matrix_text.specs.Rows.{table_entries}
-use Rattle.matrix_text.proofs.Squares.{length-lower}
+use Rattle.text_lines.proofs.Squares.{length-lower}
 use Rattle.matrix_text.proofs.Symmetries.{square-entries}
 use Rattle.matrix_text.proofs.Readings.{symmetric-table}
 use Rattle.matrix_text.proofs.reading.matrix_in.Goals as goal

@@ -1,6 +1,6 @@
 use Rattle.std.proofs.Common.{◌≡◌, ◌-◌, find}
 use Rattle.std.specs.List.{range_with_len}
-use Rattle.matrix_text.specs.Square.{first_unlike}
+use Rattle.text_lines.specs.Square.{first_unlike}
 use Rattle.matrix_text.specs.Matrix.{none, same_number}
 use Rattle.matrix_text.specs.Rows.{table_entries}
 use Rattle.matrix_text.proofs.Symmetries.{is_unlike}

@@ -1,6 +1,6 @@
 use Rattle.std.proofs.Common.{◌≡◌, ◌-◌}
 use Rattle.std.specs.List.{list_all, range_with_len}
-use Rattle.matrix_text.specs.Square.{mirrors}
+use Rattle.text_lines.specs.Square.{mirrors}
 use Rattle.matrix_text.specs.Matrix.{none, same_number}
 use Rattle.matrix_text.specs.Rows.{table_entries}
 use Rattle.matrix_text.proofs.Symmetries.{is_like}

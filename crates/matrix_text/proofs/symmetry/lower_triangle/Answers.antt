@@ -1,6 +1,7 @@
 use Rattle.std.proofs.Common.{arith}
 use Rattle.matrix_text.specs.Rows.{table_entries}
-use Rattle.matrix_text.proofs.Symmetries.{lower_none, lower_step, lower_end, length-entries}
+use Rattle.text_lines.proofs.Mirrors.{lower_none, lower_step, lower_end}
+use Rattle.matrix_text.proofs.Symmetries.{length-entries}
 use Rattle.matrix_text.proofs.symmetry.lower_triangle.Goals as goal
 
 pub loop-row-init : goal.loop-row-init

@@ -1,5 +1,5 @@
 use Rattle.std.proofs.Common.{◌≡◌, take}
-use Rattle.matrix_text.specs.Square.{lower_of}
+use Rattle.text_lines.specs.Square.{lower_of}
 use Rattle.matrix_text.specs.Rows.{table_entries}
 use Rattle.matrix_text.proofs.symmetry.lower_triangle.Given as goal
 

@@ -1,7 +1,8 @@
 use Rattle.std.proofs.Common.{arith}
 use Rattle.matrix_text.specs.Matrix.{none}
 use Rattle.matrix_text.specs.Rows.{table_entries}
-use Rattle.matrix_text.proofs.Symmetries.{front_more, length-row}
+use Rattle.text_lines.proofs.Mirrors.{front_more}
+use Rattle.matrix_text.proofs.Symmetries.{length-row}
 use Rattle.matrix_text.proofs.symmetry.push_front.Goals as goal
 
 pub loop-column-preserved : goal.loop-column-preserved

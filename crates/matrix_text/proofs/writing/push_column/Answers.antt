@@ -1,6 +1,6 @@
 use Rattle.std.proofs.lemmas.Result.{on_ok_weaker}
-use Rattle.matrix_text.specs.Canonical.{fraction_word}
-use Rattle.matrix_text.proofs.Written.{first_column, later_column}
+use Rattle.text_lines.specs.Spelling.{fraction_word}
+use Rattle.text_lines.proofs.Written.{first_column, later_column}
 use Rattle.matrix_text.proofs.writing.push_column.Goals as goal
 
 pub returns-then-column-eq0-clause-ok : goal.returns-then-column-eq0-clause-ok

@@ -2,7 +2,8 @@ use Rattle.std.proofs.Common.{◌≡◌, ◌++◌, ◌∙◌, rules, arith, ap, 
 use Rattle.std.specs.Int.{w128}
 use Rattle.std.specs.Fmt.{decimal, signed_decimal}
 use Rattle.std.proofs.lemmas.Int.{to_z-of_z}
-use Rattle.matrix_text.proofs.Written.{begin, begun, begun_more, begun_end, Extends-append, Extends-then}
+use Rattle.text_lines.proofs.Written.{Extends-append, Extends-then}
+use Rattle.matrix_text.proofs.Written.{begin, begun, begun_more, begun_end}
 use Rattle.matrix_text.proofs.writing.push_matrix.Goals as goal
 
 pub loop-row-init : goal.loop-row-init

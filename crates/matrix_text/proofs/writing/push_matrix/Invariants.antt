@@ -1,5 +1,5 @@
 use Rattle.std.proofs.Common.{◌≡◌, ◌++◌}
-use Rattle.matrix_text.specs.Spelling.{Extends}
+use Rattle.text_lines.specs.Spelling.{Extends}
 use Rattle.matrix_text.proofs.Written.{begun}
 use Rattle.matrix_text.proofs.writing.push_matrix.Given as goal
 

@@ -1,10 +1,12 @@
 use Rattle.std.proofs.Common.{◌≡◌, ◌++◌, ◌∙◌, ◌+◌, ◌-◌, refl, arith, ap}
 use Rattle.matrix_text.specs.RationalMatrix.{rational_entry}
-use Rattle.matrix_text.proofs.Written.{column_none, column_more, column_end, Extends-same, Extends-then, columns}
+use Rattle.text_lines.specs.Spelling.{fraction_word}
+use Rattle.text_lines.proofs.Written.{Extends-same, Extends-then, columns, column_none, column_more}
+use Rattle.matrix_text.proofs.Written.{row_word, row_end}
 use Rattle.matrix_text.proofs.writing.push_row.Goals as goal
 
 pub loop-column-init : goal.loop-column-init
-loop-column-init c = record { so_far = column_none (λ j. rational_entry c.args.a.now c.args.row j) c.args.into.now.items; kept = Extends-same _ _ refl }
+loop-column-init c = record { so_far = column_none (row_word (λ j. rational_entry c.args.a.now c.args.row j)) c.args.into.now.items; kept = Extends-same _ _ refl }
 
 pub loop-column-preserved : goal.loop-column-preserved
 loop-column-preserved c =
@@ -12,7 +14,7 @@ loop-column-preserved c =
     let column : c.loop-column.column + 1 - 1 ≡ c.loop-column.column = omega arith in
     let is = rw (row, column) at c.entry.ensures in
     record {
-      so_far = column_more (λ j. rational_entry c.args.a.now c.args.row j) c.loop-column.column c.entry.result c.args.into.now.items c.loop-column.into.items c.push_column.new.into.items is c.loop-column.invariant.so_far c.in_ok-push_column.ensures.ok;
+      so_far = column_more (row_word (λ j. rational_entry c.args.a.now c.args.row j)) c.loop-column.column (fraction_word c.entry.result) c.args.into.now.items c.loop-column.into.items c.push_column.new.into.items (ap fraction_word is) c.loop-column.invariant.so_far c.in_ok-push_column.ensures.ok;
       kept = Extends-then c.args.into.now.items c.loop-column.into.items c.push_column.new.into.items c.loop-column.invariant.kept c.push_column.ensures.kept;
     }
 
@@ -22,5 +24,5 @@ returns-clause-ok c =
     let test = c.loop-column-test.false in
     let auto = c.loop-column.auto.column-end in
     let all : c.loop-column.column ≡ c.args.a.now.size = omega (arith, n, test, auto) in
-    column_end (λ j. rational_entry c.args.a.now c.args.row j) c.args.a.now.size c.args.into.now.items c.loop-column.into.items c.push.new.self.items
-    (c.loop-column.invariant.so_far ∙ ap (λ k. c.args.into.now.items ++ columns (λ j. rational_entry c.args.a.now c.args.row j) k) all) c.in_ok-push.ensures.items
+    row_end (λ j. rational_entry c.args.a.now c.args.row j) c.args.a.now.size c.args.into.now.items c.loop-column.into.items c.push.new.self.items
+    (c.loop-column.invariant.so_far ∙ ap (λ k. c.args.into.now.items ++ columns (row_word (λ j. rational_entry c.args.a.now c.args.row j)) k) all) c.in_ok-push.ensures.items

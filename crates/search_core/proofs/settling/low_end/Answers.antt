@@ -8,13 +8,13 @@ use Rattle.search_core.proofs.Parts.{part_in_tree, some_low_part, low_end_answer
 use Rattle.search_core.proofs.settling.low_end.Goals as goal
 
 pub unreachable-requires : goal.unreachable-requires
-unreachable-requires c = some_low_part c.args.mode c.args.q.now.size (entry c.args.q.now) c.args.limit c.args.judged.now c.args.depth (entry_symmetric c.args.q.now.size c.args.q.now) c.requires.part c.requires.limited c.n-n.ensures.matrix.positive c.requires.narrow c.requires.fits (omega arith) c.in_default.ensures
+unreachable-requires c = some_low_part c.args.mode c.args.q.now.size (entry c.args.q.now) c.args.limit c.args.judged.now c.args.depth (entry_symmetric c.args.q.now.size c.args.q.now) c.requires.part c.requires.limited c.n-n.ensures.matrix.positive c.requires.bound_fits c.requires.fits (omega arith) c.in_default.ensures
 
 pub fitting_cone-cone-requires-clause-in_tree : goal.fitting_cone-cone-requires-clause-in_tree
-fitting_cone-cone-requires-clause-in_tree c = part_in_tree c.args.mode c.args.q.now.size (entry c.args.q.now) c.args.limit c.args.judged.now c.args.depth (entry_symmetric c.args.q.now.size c.args.q.now) c.requires.part c.requires.limited c.n-n.ensures.matrix.positive c.requires.narrow c.requires.fits c.in-Some.first c.in-Some.ensures.member
+fitting_cone-cone-requires-clause-in_tree c = part_in_tree c.args.mode c.args.q.now.size (entry c.args.q.now) c.args.limit c.args.judged.now c.args.depth (entry_symmetric c.args.q.now.size c.args.q.now) c.requires.part c.requires.limited c.n-n.ensures.matrix.positive c.requires.bound_fits c.requires.fits c.in-Some.first c.in-Some.ensures.member
 
 pub returns : goal.returns
 returns c =
     let fits : FitsSigned w128 c.gram.result = omega (arith, ints) in
-    low_end_answer c.args.mode c.args.q.now.size (entry c.args.q.now) c.args.limit c.args.judged.now c.args.depth (entry_symmetric c.args.q.now.size c.args.q.now) c.requires.part c.requires.limited c.n-n.ensures.matrix.positive c.requires.narrow c.requires.fits c.in-Some.first c.in-Low.which c.in-Some.ensures c.in-Low.is
+    low_end_answer c.args.mode c.args.q.now.size (entry c.args.q.now) c.args.limit c.args.judged.now c.args.depth (entry_symmetric c.args.q.now.size c.args.q.now) c.requires.part c.requires.limited c.n-n.ensures.matrix.positive c.requires.bound_fits c.requires.fits c.in-Some.first c.in-Low.which c.in-Some.ensures c.in-Low.is
     c.fitting_cone-cone.result c.fitting_cone-cone.ensures c.generator.result _ c.gram.result c.generator.ensures (to_z-of_z w128 c.gram.result fits) c.gram.ensures

@@ -3,7 +3,8 @@ use Rattle.std.specs.Prelude.{FitsSigned, ◌<◌}
 use Rattle.std.proofs.lemmas.Int.{ints, to_z-of_z}
 use Rattle.std.specs.Int.{w128}
 use Rattle.symmetric_matrix.specs.Symmetric.{entry}
-use Rattle.search_core.specs.Fair.{start_of, least_diagonal}
+use Rattle.search_core.specs.Fair.{start_of}
+use Rattle.search_core.specs.Fates.{least_diagonal}
 use Rattle.search_core.proofs.ShownFates.{least_of_diagonal}
 use Rattle.search_core.proofs.words.start_word.Goals as goal
 

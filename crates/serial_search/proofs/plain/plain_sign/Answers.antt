@@ -1,5 +1,5 @@
 use Rattle.symmetric_matrix.specs.Symmetric.{entry}
-use Rattle.serial_search.proofs.Holds.{root_fits}
+use Rattle.unimodular_cone.proofs.ShownAt.{root_fits}
 use Rattle.serial_search.proofs.plain.plain_sign.Goals as goal
 
 pub settle_sign-requires-clause-fits : goal.settle_sign-requires-clause-fits

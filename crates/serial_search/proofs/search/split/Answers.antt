@@ -1,14 +1,14 @@
 use Rattle.std.specs.Prelude.{◌≡◌, ◌+◌, ◌-◌, ◌<◌, List, ℕ, true, false, [], ◌∷◌, ◌++◌, length, take, slice_index_or, slice_set}
 use Rattle.std.proofs.Common.{arith, ◌∙◌, ap, subst}
 use Rattle.unimodular_cone.specs.Shown.{ShownCone, IsChild}
-use Rattle.serial_search.specs.Turns.{CanSplit}
+use Rattle.serial_search.specs.Turns.{IsSplitPair}
 use Rattle.serial_search.proofs.Tops.{on_top, top_read, split_top}
 use Rattle.serial_search.proofs.search.split.Goals as goal
 
 read : (c : goal.After-index_mut) → c.index_mut.result.now ≡ slice_index_or c.args.stack.now.items (c.len-top.result - 1) c.index_mut.result.now
 read c = c.index_mut.ensures.value ∙ ap (λ (s : List ShownCone). slice_index_or s (c.len-top.result - 1) c.index_mut.result.now) c.in_ok-reserve.ensures.items
 
-top_splits : (c : goal.After-index_mut) → CanSplit c.index_mut.result.now c.args.i c.args.j
+top_splits : (c : goal.After-index_mut) → IsSplitPair c.index_mut.result.now c.args.i c.args.j
 top_splits c =
     let here : c.len-top.result - 1 + 1 ≡ length c.args.stack.now.items = omega arith in
     c.requires.splits c.index_mut.result.now (take (c.len-top.result - 1) c.args.stack.now.items) (on_top c.args.stack.now.items c.index_mut.result.now (c.len-top.result - 1) here (read c))

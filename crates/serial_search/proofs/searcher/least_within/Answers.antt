@@ -3,7 +3,8 @@ use Rattle.std.proofs.Common.{subst}
 use Rattle.unimodular_cone.specs.declared.Mode.{Mode}
 use Rattle.symmetric_matrix.specs.Symmetric.{entry}
 use Rattle.unimodular_cone.specs.Shown.{IsFirstWideAt, IsWideWhere}
-use Rattle.serial_search.proofs.Holds.{root_fits, wide_at_root, not_memory}
+use Rattle.unimodular_cone.proofs.ShownAt.{root_fits}
+use Rattle.serial_search.proofs.Holds.{wide_at_root, not_memory}
 use Rattle.serial_search.proofs.searcher.least_within.Goals as goal
 
 pub settle_least_part-requires-clause-fits : goal.settle_least_part-requires-clause-fits
@@ -13,5 +14,5 @@ pub wide_entry-requires : goal.wide_entry-requires
 wide_entry-requires c = not_memory (IsFirstWideAt c.args.q.now.size (entry c.args.q.now) []) c.in-Err.fail c.in-Err.ensures.wide
 
 pub returns-in-Err : goal.returns-in-Err
-returns-in-Err c = wide_at_root Mode.Least c.args.q.now.size (entry c.args.q.now) c.args.limit c.wide_entry.result c.requires.narrow
+returns-in-Err c = wide_at_root Mode.Least c.args.q.now.size (entry c.args.q.now) c.args.limit c.wide_entry.result c.requires.bound_fits
     (subst (IsWideWhere (IsFirstWideAt c.args.q.now.size (entry c.args.q.now) [])) c.wide_entry.ensures c.in-Err.ensures.wide)

@@ -3,7 +3,8 @@ use Rattle.std.proofs.Common.{subst}
 use Rattle.unimodular_cone.specs.declared.Mode.{Mode}
 use Rattle.symmetric_matrix.specs.Symmetric.{entry}
 use Rattle.unimodular_cone.specs.Shown.{IsFirstWideAt, IsWideWhere}
-use Rattle.serial_search.proofs.Holds.{root_fits, wide_at_root, not_memory}
+use Rattle.unimodular_cone.proofs.ShownAt.{root_fits}
+use Rattle.serial_search.proofs.Holds.{wide_at_root, not_memory}
 use Rattle.serial_search.proofs.searcher.sign_within.Goals as goal
 
 pub settle_sign_part-requires-clause-fits : goal.settle_sign_part-requires-clause-fits

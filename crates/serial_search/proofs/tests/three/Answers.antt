@@ -3,17 +3,17 @@ use Rattle.std.specs.Int.{w128}
 use Rattle.std.proofs.Common.{arith, refl, to_z, of_z}
 use Rattle.std.proofs.lemmas.Int.{ints, to_z-of_z}
 use Rattle.exact_forms.specs.Triangles.{triangle}
-use Rattle.symmetric_matrix.specs.Symmetric.{IsLower, IsNarrow}
+use Rattle.symmetric_matrix.specs.Symmetric.{IsLower, FitsInt}
 use Rattle.serial_search.proofs.tests.three.Goals as goal
 
-narrow : (z : ℤ) → nat_abs z ≤ 2 ^ 126 → IsNarrow (to_z w128 (of_z w128 z))
+narrow : (z : ℤ) → nat_abs z ≤ 2 ^ 126 → FitsInt (to_z w128 (of_z w128 z))
 narrow z h = let f : FitsSigned w128 z = omega (arith, ints) in rw (to_z-of_z w128 z f) (omega arith)
 
-six : (a b c d e f : ℤ) → IsNarrow a → IsNarrow b → IsNarrow c → IsNarrow d → IsNarrow e → IsNarrow f → IsLower 3 (a ∷ b ∷ c ∷ d ∷ e ∷ f ∷ [])
+six : (a b c d e f : ℤ) → FitsInt a → FitsInt b → FitsInt c → FitsInt d → FitsInt e → FitsInt f → IsLower 3 (a ∷ b ∷ c ∷ d ∷ e ∷ f ∷ [])
 unfolding triangle
-six a b c d e f ha hb hc hd he hf = record { entries = refl; narrow = each }
+six a b c d e f ha hb hc hd he hf = record { entries = refl; fits = each }
   where
-    each : (k : ℕ) → k < length (a ∷ b ∷ c ∷ d ∷ e ∷ f ∷ []) → IsNarrow (slice_index_or (a ∷ b ∷ c ∷ d ∷ e ∷ f ∷ []) k (pos 0))
+    each : (k : ℕ) → k < length (a ∷ b ∷ c ∷ d ∷ e ∷ f ∷ []) → FitsInt (slice_index_or (a ∷ b ∷ c ∷ d ∷ e ∷ f ∷ []) k (pos 0))
     each zero l = ha
     each (suc zero) l = hb
     each (suc (suc zero)) l = hc

@@ -15,7 +15,7 @@ loop-entry-preserved c =
     gcd_of_abs c.gcd_wide-divisor.result c.loop-entry.divisor c.unsigned_abs.result c.loop-entry.divisor (nat_abs (slice_index_or c.args.lower.now c.loop-entry.entry-index (pos 0)))
     c.gcd_wide-divisor.ensures refl (c.unsigned_abs.ensures.value ∙ ap nat_abs (to_z-of_z fits)) in
     record {
-      narrow = omega (arith, gcd_of_below c.loop-entry.divisor (nat_abs (slice_index_or c.args.lower.now c.loop-entry.entry-index (pos 0))) (2 ^ 127) c.loop-entry.invariant.narrow narrow);
+      fits = omega (arith, gcd_of_below c.loop-entry.divisor (nat_abs (slice_index_or c.args.lower.now c.loop-entry.entry-index (pos 0))) (2 ^ 127) c.loop-entry.invariant.fits narrow);
       same = c.loop-entry.invariant.same ∙ divisor_more c.loop-entry.divisor c.args.lower.now c.loop-entry.entry-index c.loop-entry-test.true
           ∙ ap (λ (g : ℕ). divisor_from g (drop (c.loop-entry.entry-index + 1) c.args.lower.now)) (sym found);
     }

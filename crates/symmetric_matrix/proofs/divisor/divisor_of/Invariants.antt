@@ -4,6 +4,6 @@ use Rattle.symmetric_matrix.proofs.divisor.divisor_of.Given as goal
 
 abbrev pub invariant-loop-entry : goal.invariant-loop-entry
 invariant-loop-entry l = record {
-  narrow : l.divisor < 2 ^ 127;
+  fits : l.divisor < 2 ^ 127;
   same : divisor_from 0 l.lower ≡ divisor_from l.divisor (drop l.entry-index l.lower);
 }

@@ -25,5 +25,5 @@ pub returns-clause-greatest : goal.returns-clause-greatest
 returns-clause-greatest c =
     subst (IsGcd (nat_abs c.args.left) (nat_abs c.args.right)) (sym (ap nat_abs (returns-clause-value c))) (gcd_of_is (nat_abs c.args.left) (nat_abs c.args.right))
 
-pub returns-clause-narrow : goal.returns-clause-narrow
-returns-clause-narrow c = rw (returns-clause-value c) (omega (arith, found c, below c))
+pub returns-clause-fits : goal.returns-clause-fits
+returns-clause-fits c = rw (returns-clause-value c) (omega (arith, found c, below c))

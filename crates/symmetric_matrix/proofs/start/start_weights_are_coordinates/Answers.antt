@@ -4,5 +4,5 @@ use Rattle.symmetric_matrix.proofs.start.start_weights_are_coordinates.Goals as 
 pub returns-clause-write : goal.returns-clause-write
 returns-clause-write c = start_coordinates_write
 
-pub returns-clause-free : goal.returns-clause-free
-returns-clause-free c = start_matrices_independent
+pub returns-clause-independent : goal.returns-clause-independent
+returns-clause-independent c = start_matrices_independent

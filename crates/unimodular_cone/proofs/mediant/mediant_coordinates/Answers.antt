@@ -2,7 +2,7 @@ use Rattle.std.specs.Prelude.{◌<◌, ◌≤◌, ◌^◌, ◌+◌, ℕ}
 use Rattle.std.proofs.Common.{arith, ap₂, ◌∙◌, length-set}
 use Rattle.unimodular_cone.specs.Shown.{shown_coordinate}
 use Rattle.unimodular_cone.proofs.ShownLaws.{coordinate_within}
-use Rattle.unimodular_cone.proofs.Mediants.{more_set}
+use Rattle.exact_forms.proofs.Lists.{more_set}
 use Rattle.unimodular_cone.proofs.mediant.mediant_coordinates.Goals as goal
 
 pub overflow_add-sums : goal.overflow_add-sums

@@ -2,7 +2,8 @@ use Rattle.std.specs.Prelude.{◌<◌, ◌+ℤ◌, ℕ, pos}
 use Rattle.std.proofs.Common.{arith, ◌∙◌, length-set}
 use Rattle.unimodular_cone.specs.Shown.{shown_gram}
 use Rattle.unimodular_cone.proofs.ShownLaws.{gram_within}
-use Rattle.unimodular_cone.proofs.Mediants.{more_set, read_fits, read_sum, larger}
+use Rattle.exact_forms.proofs.Lists.{more_set}
+use Rattle.unimodular_cone.proofs.Mediants.{read_fits, read_sum, larger}
 use Rattle.unimodular_cone.proofs.mediant.products.Goals as goal
 
 pub overflow_add-sums : goal.overflow_add-sums

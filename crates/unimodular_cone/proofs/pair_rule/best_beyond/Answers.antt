@@ -2,7 +2,7 @@ use Rattle.std.specs.Prelude.{◌≡◌, ◌≤◌, ◌+◌, ◌^◌, ℕ, nat_a
 use Rattle.std.specs.Int.{w128}
 use Rattle.std.proofs.Common.{arith, sym, ◌∙◌, ap, to_z, of_z}
 use Rattle.unimodular_cone.specs.BestPair.{best_pair}
-use Rattle.unimodular_cone.specs.Cones.{better}
+use Rattle.unimodular_cone.specs.Cones.{lesser_pair}
 use Rattle.unimodular_cone.specs.Shown.{shown_gram}
 use Rattle.unimodular_cone.proofs.ShownLaws.{gram_within}
 use Rattle.unimodular_cone.proofs.PartSlack.{read_back}
@@ -21,6 +21,6 @@ loop-column-preserved g c =
       pair =
           ap best_pair c.better_of-best.ensures
           ∙ better_pair _ _ _ _ _ e c.loop-column.invariant.best
-          ∙ ap (λ (b : Option (ℕ × ℕ)). better (shown_gram (g.C.ConeRead.cone c.args.c.now)) b c.args.row c.loop-column.column) c.loop-column.invariant.pair
+          ∙ ap (λ (b : Option (ℕ × ℕ)). lesser_pair (shown_gram (g.C.ConeRead.cone c.args.c.now)) b c.args.row c.loop-column.column) c.loop-column.invariant.pair
           ∙ sym (row_more (shown_gram (g.C.ConeRead.cone c.args.c.now)) c.args.row c.loop-column.column (best_pair c.args.before) (omega arith));
     }

@@ -7,7 +7,7 @@ use Rattle.exact_forms.specs.Triangles.{triangle}
 use Rattle.exact_linear.specs.Tables.{Table, cells}
 use Rattle.exact_linear.specs.Columns.{HasCoordinates, columns_of, start_cell}
 use Rattle.exact_linear.proofs.Fill.{length-cells}
-use Rattle.exact_linear.proofs.StartTable.{start_coordinates, start_table_made, some_units, a_row, numbers_within}
+use Rattle.exact_linear.proofs.StartTable.{start_has_coordinates, start_table_made, some_units, a_row, numbers_within}
 use Rattle.exact_linear.proofs.tableau.Tableau.over_units.Goals as goal
 
 pub start_entries-requires-clause-sizes : goal.start_entries-requires-clause-sizes
@@ -44,4 +44,4 @@ pub returns-clause-coordinates : goal.returns-clause-coordinates
 returns-clause-coordinates c =
     subst (λ (t : Table). HasCoordinates (columns_of c.args.n c.args.columns.now) t)
     (sym (start_table_made c.args.n c.units_of-rows.result c.args.columns.now c.in_ok-entries.entries.items c.in_ok-basic.basic.items c.units_of-rows.ensures.value c.in_ok-entries.ensures c.in_ok-basic.ensures))
-    (start_coordinates c.args.n c.args.columns.now)
+    (start_has_coordinates c.args.n c.args.columns.now)

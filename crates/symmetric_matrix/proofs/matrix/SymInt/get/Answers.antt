@@ -19,7 +19,7 @@ returns-clause-value c =
     c.requires.first_row c.requires.last_row c.requires.first_column c.requires.last_column
     (rw (c.max-below.ensures, c.min-beside.ensures) at c.place_of.ensures) c.index.ensures
 
-pub returns-clause-narrow : goal.returns-clause-narrow
-returns-clause-narrow c =
+pub returns-clause-fits : goal.returns-clause-fits
+returns-clause-fits c =
     let matrix : IsSymmetricMatrix c.args.self.now = subst IsSymmetricMatrix c.self.view_is c.self.invariant in
     rw (returns-clause-value c) (entry_narrow c.args.self.now matrix _ _ (omega arith) (omega arith))

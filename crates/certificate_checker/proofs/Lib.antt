@@ -1,0 +1,14 @@
+pub mod Loops
+pub mod Checks
+pub mod DotSums
+pub mod GramSums
+pub mod SmallSums
+pub mod SmallSlacks
+pub mod RowSets
+pub mod TreeWalks
+pub mod TermSums
+pub mod PairSums
+pub mod ValueChecks
+pub mod Accepted
+pub mod Refusals
+pub mod Factored

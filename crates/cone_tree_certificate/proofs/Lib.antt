@@ -1,0 +1,10 @@
+pub mod Trees
+pub mod PairTrees
+pub mod Building
+pub mod Symmetries
+pub mod Steps
+pub mod Writable
+pub mod WrittenLines
+pub mod ProofReadings
+pub mod RoundTrip
+pub mod Wholes

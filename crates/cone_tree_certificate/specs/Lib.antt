@@ -1,0 +1,10 @@
+pub mod Trees
+pub mod PairTrees
+pub mod WayDown
+pub mod Words
+pub mod Sizes
+pub mod Rows
+pub mod ProofText
+pub mod Reading
+pub mod VerdictText
+pub mod Theorems

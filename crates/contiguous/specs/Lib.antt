@@ -1,0 +1,3 @@
+pub mod Tightenings
+pub mod Making
+pub mod Theorems

@@ -1,0 +1,107 @@
+-- The commands, and what a command line asks for.
+--
+--     Request                  a command with what its words say: names of files as bytes, then a depth
+--     HasRanges r              the numbers of a request are in their ranges
+--     CommandRow               a command: its name, the forms of its plain arguments, its options, and its request, of the
+--                              plain arguments by their number from 0, and of the words
+--     solve, check, minimum, copositive    the rows of the commands
+--     depth                    the option `--depth`, with a number from 0 to 200
+--     depth_of words           the number after it, or else 60
+--     commands                 the commands of the program
+--     request_or_fault fault r the request, or the position of the word at the place that is at fault
+--     read_as row words        how the words after its name are read by a command's row; without a row, the name is at fault
+--     request_in words         the request, or the position of the first word that cannot be read
+--     IsCommandLine words r    the words are a command line that asks for r
+--     IsUsageAt words p        they are none, and the first fault is at position p, from 1
+--     IsReadOneWay words       exactly one of the two holds, for exactly one value
+--
+-- Options and plain arguments come in any order. An unknown command is at fault at position 1, an unknown or
+-- repeated option and a surplus plain argument at their own, a number out of form at the number's, and a missing
+-- word at the position after the last.
+use Rattle.std.specs.Prelude.{◌≡◌, ◌≤◌, ℕ, ◌+◌, List, [], ◌∷◌, Option, Some, None, Result, Ok, Err, ◌⊎◌, find, codes}
+use Rattle.std.specs.Str.{bytes_eq}
+use Rattle.cpfactor_lines.specs.Arguments.{Form, FileName, Number, OptionRow, plain_argument, option_value, fault_place}
+
+pub data Request : Type 0 where
+  Solve : List ℕ → Request
+  Check : List ℕ → List ℕ → Request
+  Minimum : List ℕ → ℕ → Request
+  Copositive : List ℕ → ℕ → Request
+
+abbrev pub HasRanges : Request → Type 0
+HasRanges (Solve file) = Unit {0}
+HasRanges (Check file proof) = Unit {0}
+HasRanges (Minimum file depth) = depth ≤ 200
+HasRanges (Copositive file depth) = depth ≤ 200
+
+pub record CommandRow : Type 0 where
+  pub name : List ℕ
+  pub plain : List Form
+  pub options : List OptionRow
+  pub request : (ℕ → List ℕ) → List (List ℕ) → Request
+
+-- solve FILE
+abbrev pub solve : CommandRow
+solve = record { name = codes "solve"; plain = FileName ∷ []; options = []; request = λ plain words. Solve (plain 0) }
+
+-- check FILE PROOF
+abbrev pub check : CommandRow
+check = record {
+  name = codes "check";
+  plain = FileName ∷ FileName ∷ [];
+  options = [];
+  request = λ plain words. Check (plain 0) (plain 1);
+}
+
+abbrev pub depth : OptionRow
+depth = record { name = codes "--depth"; value = Some (Number 0 200) }
+
+abbrev pub depth_of : List (List ℕ) → ℕ
+depth_of words = option_value words (codes "--depth") 60
+
+-- minimum FILE [--depth N]
+abbrev pub minimum : CommandRow
+minimum = record {
+  name = codes "minimum";
+  plain = FileName ∷ [];
+  options = depth ∷ [];
+  request = λ plain words. Minimum (plain 0) (depth_of words);
+}
+
+-- copositive FILE [--depth N]
+abbrev pub copositive : CommandRow
+copositive = record {
+  name = codes "copositive";
+  plain = FileName ∷ [];
+  options = depth ∷ [];
+  request = λ plain words. Copositive (plain 0) (depth_of words);
+}
+
+abbrev pub commands : List CommandRow
+commands = solve ∷ check ∷ minimum ∷ copositive ∷ []
+
+abbrev pub request_or_fault : Option ℕ → Request → Result Request ℕ
+request_or_fault None request = Ok request
+request_or_fault (Some place) request = Err (place + 2)
+
+unfoldable pub read_as : Option CommandRow → List (List ℕ) → Result Request ℕ
+read_as None arguments = Err 1
+read_as (Some row) arguments =
+    request_or_fault (fault_place row.plain row.options arguments)
+    (row.request (plain_argument row.options arguments) arguments)
+
+unfoldable pub request_in : List (List ℕ) → Result Request ℕ
+request_in [] = Err 1
+request_in (name ∷ arguments) = read_as (find (λ row. bytes_eq name row.name) commands) arguments
+
+abbrev pub IsCommandLine : List (List ℕ) → Request → Type 0
+IsCommandLine words request = request_in words ≡ Ok request
+
+abbrev pub IsUsageAt : List (List ℕ) → ℕ → Type 0
+IsUsageAt words position = request_in words ≡ Err position
+
+pub record IsReadOneWay (words : List (List ℕ)) : Type 0 where
+  pub some : ((request : Request) × IsCommandLine words request) ⊎ ((position : ℕ) × IsUsageAt words position)
+  pub not_both : (request : Request) (position : ℕ) → IsCommandLine words request → IsUsageAt words position → ⊥
+  pub one_request : (r s : Request) → IsCommandLine words r → IsCommandLine words s → r ≡ s
+  pub one_position : (p q : ℕ) → IsUsageAt words p → IsUsageAt words q → p ≡ q

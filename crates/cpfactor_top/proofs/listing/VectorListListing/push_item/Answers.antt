@@ -1,8 +1,0 @@
-use Rattle.std.proofs.Common.{◌≡◌, ◌++◌, OnOk, subst}
-use Rattle.cpfactor_top.proofs.Listings.{vector_at}
-use Rattle.cpfactor_top.proofs.listing.VectorListListing.push_item.Goals as goal
-
-pub returns : goal.returns
-returns c =
-    subst (λ t. OnOk c.push_line_of.result (c.push_line_of.new.into.items ≡ c.args.into.now.items ++ t))
-    (vector_at c.args.self.now c.args.k c.at.result.now c.as_slice.result.now c.at.ensures c.as_slice.ensures.value) c.push_line_of.ensures

@@ -1,6 +1,0 @@
-use Rattle.cpfactor_top.proofs.NearFaults.{usage-le}
-use Rattle.cpfactor_top.proofs.OneWay.{read_one_way}
-use Rattle.cpfactor_top.proofs.words.words_are_read_one_way.Goals as goal
-
-pub returns : goal.returns
-returns c = record { one_way = read_one_way; near = usage-le }

@@ -1,0 +1,11 @@
+pub mod Clearings
+pub mod Columns
+pub mod Names
+pub mod Cleared
+pub mod Meaning
+pub mod Making
+pub mod Answering
+pub mod Wholes
+pub mod Examples
+pub mod Multiples
+pub mod OneRay

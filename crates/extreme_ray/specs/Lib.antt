@@ -1,0 +1,4 @@
+pub mod Clearing
+pub mod Rays
+pub mod Steps
+pub mod Theorems

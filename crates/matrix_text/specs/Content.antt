@@ -1,8 +1,0 @@
--- A content line of the program, as the definitions see it.
---
---     line_of l     its number and its bytes
-use Rattle.matrix_text.specs.declared.content.TextLine as declared
-use Rattle.matrix_text.specs.Lines.{TextLine}
-
-abbrev pub line_of : declared.TextLine → TextLine
-line_of l = record { number = l.number; bytes = l.bytes.now }

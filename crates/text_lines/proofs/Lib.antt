@@ -1,0 +1,14 @@
+pub mod Runs
+pub mod LineLemmas
+pub mod NumberLemmas
+pub mod Fronts
+pub mod Counted
+pub mod Cuts
+pub mod Numerals
+pub mod FractionWords
+pub mod FractionTexts
+pub mod PlainLines
+pub mod ReadValues
+pub mod Squares
+pub mod Mirrors
+pub mod Written
