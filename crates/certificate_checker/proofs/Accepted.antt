@@ -66,7 +66,7 @@ record Reads (n : ℕ) (w : Matrix) (count levels : ℕ) (g : Generators) (due :
   splits : All (HasSplit n) rest
   passes : first_refusal (node_checks n w count index due rest) ≡ None
 
-split_step : (n : ℕ) (w : Matrix) (count levels index i j : ℕ) (g : Generators) (due : List Node) (more : Lines)
+pub split_step : (n : ℕ) (w : Matrix) (count levels index i j : ℕ) (g : Generators) (due : List Node) (more : Lines)
     → node_checks n w count index (record { generators = g; levels = suc levels } ∷ due) (Split i j ∷ more)
     ≡ map made_check (mediant_ops n g (i - 1) (j - 1)) ++ node_checks n w count (index + 1) (record { generators = child g (i - 1) (j - 1); levels = levels } ∷ record { generators = child g (j - 1) (i - 1); levels = levels } ∷ due) more
 unfolding node_checks

@@ -12,3 +12,4 @@ pub mod ValueChecks
 pub mod Accepted
 pub mod Refusals
 pub mod Factored
+pub mod NotRefused

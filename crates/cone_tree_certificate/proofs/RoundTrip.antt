@@ -19,7 +19,9 @@ use Rattle.text_lines.specs.Square.{lower_of, full, first_unlike}
 use Rattle.text_lines.specs.Spelling.{line_of_words, quotient_word}
 use Rattle.text_lines.proofs.Numerals.{is_whole-decimal, whole_value-decimal}
 use Rattle.text_lines.proofs.FractionTexts.{IsWithin, IsPlainWord, whole-read, signed-read, quotient-read, plain-decimal, plain-signed, plain-quotient, plain-codes}
-use Rattle.text_lines.proofs.PlainLines.{joined, IsPlainLine, numbered, in_line-joined, content_lines-written}
+use Rattle.text_lines.specs.Skipped.{IsSkippedLine, IsSkippedText, ended_lines}
+use Rattle.text_lines.proofs.PlainLines.{joined, IsPlainLine, numbered, in_line-joined}
+use Rattle.text_lines.proofs.SkippedLines.{content_lines-behind}
 use Rattle.text_lines.proofs.Squares.{square-full, lower-full, full-mirrored, mirrored-alike}
 use Rattle.cone_tree_certificate.specs.declared.fault.VerdictKind.{VerdictKind}
 use Rattle.cone_tree_certificate.specs.declared.fault.VerdictKind.TheVariants.{NotAscii, NoHeader, ShortLine}
@@ -183,21 +185,42 @@ each P [] p = tt
 each P (x ∷ xs) p = (p 0 x (omega arith), each P xs (λ i d lt. p (suc i) d (omega arith)))
 
 -- ---- a factorization
-factors-written : (n : ℕ) (terms : List WeightedVector) → IsWritable (Factors n terms) → IsWhole (Factors n terms) → ProofText (verdict_text (Factors n terms)) (Factors n terms)
-unfolding ProofText verdict_of verdict_of_lines verdict_text written_terms factors_of
-factors-written n terms writable whole =
-    let some = writable.0 in
+abbrev factors_lines : ℕ → List WeightedVector → List (List (List ℕ))
+factors_lines n terms = factors_words n (length terms) ∷ (map term_words terms ++ [])
+
+factors-text : (n : ℕ) (terms : List WeightedVector) → verdict_text (Factors n terms) ≡ flat_map line_of_words (factors_lines n terms)
+unfolding verdict_text written_terms
+factors-text n terms =
+    ap (λ (t : List ℕ). line_of_words (factors_words n (length terms)) ++ t)
+    (sym (flat-words term_words terms [] ∙ append-nil (flat_map (λ (t : WeightedVector). line_of_words (term_words t)) terms)))
+
+factors-plain : (n : ℕ) (terms : List WeightedVector) → IsWritable (Factors n terms) → IsWhole (Factors n terms)
+    → AllByRecursion IsPlainLine (factors_lines n terms)
+factors-plain n terms writable whole =
     let few = writable.1 in
+    let small = whole.0 in (
+      record {
+        some = omega arith;
+        plain =
+            (plain-codes (codes "factored") refl, (plain-decimal n (omega (arith, few)), (plain-decimal (length terms) (omega (arith, small)), tt)));
+      },
+      each-plain term_words (λ t. (length t.vector ≡ n) × IsNarrowTerm t) (λ t h. plain-term t h.1) terms []
+          (both (λ (t : WeightedVector). length t.vector ≡ n) IsNarrowTerm terms writable.2 whole.1) tt,
+    )
+
+-- whatever the number of the first line
+factors-read : (text : List ℕ) (k n : ℕ) (terms : List WeightedVector) → content_lines text ≡ numbered k (factors_lines n terms)
+    → IsWritable (Factors n terms) → IsWhole (Factors n terms) → ProofText text (Factors n terms)
+unfolding ProofText verdict_of verdict_of_lines factors_of
+factors-read text k n terms content writable whole =
     let P : WeightedVector → Type 0 = λ t. (length t.vector ≡ n) × IsNarrowTerm t in
     let good = both (λ (t : WeightedVector). length t.vector ≡ n) IsNarrowTerm terms writable.2 whole.1 in
-    let text : verdict_text (Factors n terms) ≡ flat_map line_of_words (factors_words n (length terms) ∷ (map term_words terms ++ [])) =
-    ap (λ (t : List ℕ). line_of_words (factors_words n (length terms)) ++ t) (sym (flat-words term_words terms [] ∙ append-nil (flat_map (λ (t : WeightedVector). line_of_words (term_words t)) terms))) in
-    let header : IsPlainLine (factors_words n (length terms)) = record { some = omega arith; plain = (plain-codes (codes "factored") refl, (plain-decimal n (omega (arith, few)), (plain-decimal (length terms) (let small = whole.0 in omega (arith, small)), tt))) } in
-    let content : content_lines (verdict_text (Factors n terms)) ≡ numbered 1 (factors_words n (length terms) ∷ (map term_words terms ++ [])) =
-    ap content_lines text ∙ content_lines-written (factors_words n (length terms) ∷ (map term_words terms ++ [])) (header, each-plain term_words P (λ t h. plain-term t h.1) terms [] good tt) in
-    let first = line-read verdict_header 1 (factors_words n (length terms)) (OfFactors n (length terms)) header.plain (factors-header n (length terms) some few whole.0) in
-    let read = many-written (verdict_line (term_of n)) (missing_line (end_line (verdict_text (Factors n terms)))) term_words (λ k t. t) P (λ k t h. line-read (term_of n) k (term_words t) t (plain-term t h.1).plain (term-read n t h.0 h.1)) 2 terms [] good in
-    rw (content, first, read, items-same 2 terms) refl
+    let plain = factors-plain n terms writable whole in
+    let first = line-read verdict_header k (factors_words n (length terms)) (OfFactors n (length terms)) plain.0.plain
+    (factors-header n (length terms) writable.0 writable.1 whole.0) in
+    let read = many-written (verdict_line (term_of n)) (missing_line (end_line text)) term_words (λ k t. t) P
+    (λ k t h. line-read (term_of n) k (term_words t) t (plain-term t h.1).plain (term-read n t h.0 h.1)) (k + 1) terms [] good in
+    rw (content, first, read, items-same (k + 1) terms) refl
 
 -- ---- a separation
 entry-narrow : (n : ℕ) (lower : List ℤ) (k : ℕ) → IsLower n lower → FitsInt (get_or lower k (pos 0))
@@ -243,61 +266,130 @@ length-seen k [] = refl
 length-seen k (row ∷ rows) = ap suc (length-seen (k + 1) rows)
 
 -- rows that are those of a lower triangle
-rows-separator : (w : Symmetric) (value : Rational) (tree : Lines) → IsSymmetricMatrix w
-    → unless_unlike (items_from seen 2 (full (pos 0) w.size w.lower)) value tree (first_unlike int_eq (pos 0) (row_entries (items_from seen 2 (full (pos 0) w.size w.lower)))) ≡ Ok (Separator w value tree)
-rows-separator w value tree h =
-    let rows = full (pos 0) w.size w.lower in
+rows-separator : (k : ℕ) (w : Symmetric) (value : Rational) (tree : Lines) → IsSymmetricMatrix w
+    → unless_unlike (items_from seen k (full (pos 0) w.size w.lower)) value tree
+    (first_unlike int_eq (pos 0) (row_entries (items_from seen k (full (pos 0) w.size w.lower)))) ≡ Ok (Separator w value tree)
+rows-separator k w value tree h =
     let square = square-full (pos 0) w.size w.lower in
     let alike = mirrored-alike int_eq (pos 0) w.size (full (pos 0) w.size w.lower) Decides-int_eq square.len (full-mirrored (pos 0) w.size w.lower) in
-    rw (entries-seen 2 (full (pos 0) w.size w.lower), alike)
-    (ap₂ made (length-seen 2 (full (pos 0) w.size w.lower) ∙ square.len) (ap (λ (rows : List (List ℤ)). lower_of rows) (entries-seen 2 (full (pos 0) w.size w.lower)) ∙ lower-full (pos 0) w.size w.lower h.triangle.entries))
+    rw (entries-seen k (full (pos 0) w.size w.lower), alike)
+    (ap₂ made (length-seen k (full (pos 0) w.size w.lower) ∙ square.len)
+    (ap (λ (rows : List (List ℤ)). lower_of rows) (entries-seen k (full (pos 0) w.size w.lower)) ∙ lower-full (pos 0) w.size w.lower h.triangle.entries))
   where
     made : ℕ → List ℤ → Result Verdict VerdictFault
     made size lower = Ok (Separator (record { size = size; lower = lower }) value tree)
 
-separator-written : (w : Symmetric) (value : Rational) (tree : Lines) → IsWritable (Separator w value tree) → IsWhole (Separator w value tree) → ProofText (verdict_text (Separator w value tree)) (Separator w value tree)
-unfolding ProofText verdict_of verdict_of_lines verdict_text written_rows written_tree separator_of
-separator-written w value tree writable whole =
-    let some = whole.matrix.positive in
-    let few = writable.0 in
-    let n = w.size in
-    let rows = full (pos 0) w.size w.lower in
-    let square = square-full (pos 0) w.size w.lower in
-    let after : List (List (List ℕ)) = value_words value ∷ count_words (length tree) ∷ (map tree_words tree ++ []) in
-    let all : List (List (List ℕ)) = separator_words w.size ∷ (map (λ row. map signed_decimal row) (full (pos 0) w.size w.lower) ++ (value_words value ∷ count_words (length tree) ∷ (map tree_words tree ++ []))) in
-    let q = within value whole.num whole.den in
-    let good_rows = full-rows w whole.matrix in
-    let good_tree = each (HasSplit w.size) tree writable.1 in
-    let header : IsPlainLine (separator_words w.size) = record { some = omega arith; plain = (plain-codes (codes "separated") refl, (plain-decimal w.size (omega (arith, few)), tt)) } in
-    let value_plain : IsPlainLine (value_words value) = record { some = omega arith; plain = (plain-codes (codes "value") refl, (plain-quotient widest value q, tt)) } in
-    let small = whole.tree_length in
-    let count_plain : IsPlainLine (count_words (length tree)) = record { some = omega arith; plain = (plain-codes (codes "tree") refl, (plain-decimal (length tree) (omega (arith, small)), tt)) } in
-    let plain : AllByRecursion IsPlainLine all = (
-      header,
-      each-plain (λ (row : List ℤ). map signed_decimal row) (IsRow w.size) (λ row h. plain-row row (let len = h.len in omega (arith, len, some)) h.narrow) (full (pos 0) w.size w.lower) (value_words value ∷ count_words (length tree) ∷ (map tree_words tree ++ [])) good_rows
-          (value_plain, (count_plain, each-plain tree_words (HasSplit w.size) (λ line h. plain-tree w.size line few h) tree [] good_tree tt)),
-    ) in
-    let text : verdict_text (Separator w value tree) ≡ flat_map line_of_words all = text_lines in
-    let content : content_lines (verdict_text (Separator w value tree)) ≡ numbered 1 all = ap content_lines text ∙ content_lines-written all plain in
-    let end = end_line (verdict_text (Separator w value tree)) in
-    let first = line-read verdict_header 1 (separator_words w.size) (OfSeparator w.size) header.plain (separator-header w.size some few) in
-    let read_rows : many (numbered_row w.size) (missing_line (end_line (verdict_text (Separator w value tree)))) w.size (numbered 2 (map (λ row. map signed_decimal row) (full (pos 0) w.size w.lower) ++ (value_words value ∷ count_words (length tree) ∷ (map tree_words tree ++ []))))
-    ≡ Ok (record { items = items_from seen 2 (full (pos 0) w.size w.lower); rest = numbered (2 + w.size) (value_words value ∷ count_words (length tree) ∷ (map tree_words tree ++ [])) }) =
-    subst (λ (m : ℕ). many (numbered_row w.size) (missing_line (end_line (verdict_text (Separator w value tree)))) m (numbered 2 (map (λ row. map signed_decimal row) (full (pos 0) w.size w.lower) ++ (value_words value ∷ count_words (length tree) ∷ (map tree_words tree ++ []))))
-    ≡ Ok (record { items = items_from seen 2 (full (pos 0) w.size w.lower); rest = numbered (2 + m) (value_words value ∷ count_words (length tree) ∷ (map tree_words tree ++ [])) })) square.len
-    (many-written (numbered_row w.size) (missing_line (end_line (verdict_text (Separator w value tree)))) (λ (row : List ℤ). map signed_decimal row) seen (IsRow w.size) (λ k row h. row_line-read w.size k row h) 2 (full (pos 0) w.size w.lower) (value_words value ∷ count_words (length tree) ∷ (map tree_words tree ++ [])) good_rows) in
-    let read_value = line-read value_of (2 + w.size) (value_words value) value value_plain.plain (value-read value q) in
-    let read_count = line-read count_of (2 + w.size + 1) (count_words (length tree)) (length tree) count_plain.plain (count-read (length tree) small) in
-    let read_tree = many-written (verdict_line (tree_line_of w.size)) (missing_line (end_line (verdict_text (Separator w value tree)))) tree_words (λ k line. line) (HasSplit w.size) (λ k line h. line-read (tree_line_of w.size) k (tree_words line) line (plain-tree w.size line few h).plain (tree-read w.size line few h)) (2 + w.size + 1 + 1) tree [] good_tree in
-    rw (content, first, read_rows, read_value, read_count, read_tree, items-same (2 + w.size + 1 + 1) tree) (rows-separator w value tree whole.matrix)
+abbrev row_words : List ℤ → List (List ℕ)
+row_words row = map signed_decimal row
+
+abbrev below_rows : Rational → Lines → List (List (List ℕ))
+below_rows value tree = value_words value ∷ count_words (length tree) ∷ (map tree_words tree ++ [])
+
+abbrev separator_lines : Symmetric → Rational → Lines → List (List (List ℕ))
+separator_lines w value tree = separator_words w.size ∷ (map row_words (full (pos 0) w.size w.lower) ++ below_rows value tree)
+
+separator-text : (w : Symmetric) (value : Rational) (tree : Lines)
+    → verdict_text (Separator w value tree) ≡ flat_map line_of_words (separator_lines w value tree)
+unfolding verdict_text written_rows written_tree
+separator-text w value tree = rw (flat-words row_words (full (pos 0) w.size w.lower) (below_rows value tree), flat-words tree_words tree [])
+    (join (line_of_words (separator_words w.size)) (flat_map (λ (row : List ℤ). line_of_words (map signed_decimal row)) (full (pos 0) w.size w.lower))
+    (line_of_words (value_words value)) (line_of_words (count_words (length tree))) (flat_map (λ (line : TreeLine). line_of_words (tree_words line)) tree))
   where
     join : (a b c d e : List ℕ) → (((a ++ b) ++ c) ++ d) ++ e ≡ a ++ (b ++ (c ++ (d ++ (e ++ []))))
     join a b c d e = simp (append_assoc, append-nil)
 
-    text_lines : verdict_text (Separator w value tree) ≡ flat_map line_of_words (separator_words w.size ∷ (map (λ row. map signed_decimal row) (full (pos 0) w.size w.lower) ++ (value_words value ∷ count_words (length tree) ∷ (map tree_words tree ++ []))))
-    text_lines = rw (flat-words (λ (row : List ℤ). map signed_decimal row) (full (pos 0) w.size w.lower) (value_words value ∷ count_words (length tree) ∷ (map tree_words tree ++ [])), flat-words tree_words tree [])
-        (join (line_of_words (separator_words w.size)) (flat_map (λ (row : List ℤ). line_of_words (map signed_decimal row)) (full (pos 0) w.size w.lower)) (line_of_words (value_words value)) (line_of_words (count_words (length tree))) (flat_map (λ (line : TreeLine). line_of_words (tree_words line)) tree))
+-- that the lines are plain
+record ArePlainParts (w : Symmetric) (value : Rational) (tree : Lines) : Type 0 where
+  header : IsPlainLine (separator_words w.size)
+  value_plain : IsPlainLine (value_words value)
+  count_plain : IsPlainLine (count_words (length tree))
+  all : AllByRecursion IsPlainLine (separator_lines w value tree)
 
-pub written-read : (v : Verdict) → IsWritable v → IsWhole v → ProofText (verdict_text v) v
-written-read (Factors n terms) writable whole = factors-written n terms writable whole
-written-read (Separator w value tree) writable whole = separator-written w value tree writable whole
+separator-plain : (w : Symmetric) (value : Rational) (tree : Lines) → IsWritable (Separator w value tree) → IsWhole (Separator w value tree)
+    → ArePlainParts w value tree
+separator-plain w value tree writable whole = record {
+  header = header;
+  value_plain = value_plain;
+  count_plain = count_plain;
+  all = (
+    header,
+    each-plain row_words (IsRow w.size) (λ row h. plain-row row (let len = h.len in omega (arith, len, some)) h.narrow) (full (pos 0) w.size w.lower)
+        (below_rows value tree) (full-rows w whole.matrix) (
+          value_plain,
+          (
+            count_plain,
+            each-plain tree_words (HasSplit w.size) (λ line h. plain-tree w.size line few h) tree []
+                (each (HasSplit w.size) tree writable.1) tt,
+          ),
+        ),
+  );
+}
+  where
+    some : 1 ≤ w.size
+    some = whole.matrix.positive
+
+    few : w.size ≤ 6
+    few = writable.0
+
+    header : IsPlainLine (separator_words w.size)
+    header = record { some = omega arith; plain = (plain-codes (codes "separated") refl, (plain-decimal w.size (omega (arith, few)), tt)) }
+
+    value_plain : IsPlainLine (value_words value)
+    value_plain = record {
+      some = omega arith;
+      plain =
+          (plain-codes (codes "value") refl, (plain-quotient widest value (within value whole.num whole.den), tt));
+    }
+
+    count_plain : IsPlainLine (count_words (length tree))
+    count_plain = record {
+      some = omega arith;
+      plain =
+          (plain-codes (codes "tree") refl, (plain-decimal (length tree) (let small = whole.tree_length in omega (arith, small)), tt));
+    }
+
+-- whatever the number of the first line
+separator-read : (text : List ℕ) (k : ℕ) (w : Symmetric) (value : Rational) (tree : Lines)
+    → content_lines text ≡ numbered k (separator_lines w value tree) → IsWritable (Separator w value tree) → IsWhole (Separator w value tree)
+    → ProofText text (Separator w value tree)
+unfolding ProofText verdict_of verdict_of_lines separator_of
+separator-read text k w value tree content writable whole =
+    let few = writable.0 in
+    let missing : VerdictFault = missing_line (end_line text) in
+    let square = square-full (pos 0) w.size w.lower in
+    let plain = separator-plain w value tree writable whole in
+    let first = line-read verdict_header k (separator_words w.size) (OfSeparator w.size) plain.header.plain
+    (separator-header w.size whole.matrix.positive few) in
+    let read_rows : many (numbered_row w.size) (missing_line (end_line text)) w.size
+    (numbered (k + 1) (map row_words (full (pos 0) w.size w.lower) ++ below_rows value tree))
+    ≡ Ok (record { items = items_from seen (k + 1) (full (pos 0) w.size w.lower); rest = numbered (k + 1 + w.size) (below_rows value tree) }) =
+    subst (λ (m : ℕ). many (numbered_row w.size) (missing_line (end_line text)) m
+    (numbered (k + 1) (map row_words (full (pos 0) w.size w.lower) ++ below_rows value tree))
+    ≡ Ok (record { items = items_from seen (k + 1) (full (pos 0) w.size w.lower); rest = numbered (k + 1 + m) (below_rows value tree) })) square.len
+    (many-written (numbered_row w.size) (missing_line (end_line text)) row_words seen (IsRow w.size) (λ k row h. row_line-read w.size k row h) (k + 1)
+    (full (pos 0) w.size w.lower) (below_rows value tree) (full-rows w whole.matrix)) in
+    let read_value = line-read value_of (k + 1 + w.size) (value_words value) value plain.value_plain.plain
+    (value-read value (within value whole.num whole.den)) in
+    let read_count = line-read count_of (k + 1 + w.size + 1) (count_words (length tree)) (length tree) plain.count_plain.plain
+    (count-read (length tree) whole.tree_length) in
+    let read_tree = many-written (verdict_line (tree_line_of w.size)) (missing_line (end_line text)) tree_words (λ k line. line) (HasSplit w.size)
+    (λ k line h. line-read (tree_line_of w.size) k (tree_words line) line (plain-tree w.size line few h).plain (tree-read w.size line few h))
+    (k + 1 + w.size + 1 + 1) tree [] (each (HasSplit w.size) tree writable.1) in
+    rw (content, first, read_rows, read_value, read_count, read_tree, items-same (k + 1 + w.size + 1 + 1) tree)
+    (rows-separator (k + 1) w value tree whole.matrix)
+
+-- ---- a verdict, and lines before it that are skipped
+verdict-behind : (skipped : List (List ℕ)) (v : Verdict) → AllByRecursion IsSkippedLine skipped → IsWritable v → IsWhole v
+    → ProofText (ended_lines skipped ++ verdict_text v) v
+verdict-behind skipped (Factors n terms) h writable whole =
+    factors-read _ (1 + length skipped) n terms
+    (ap (λ (t : List ℕ). content_lines (ended_lines skipped ++ t)) (factors-text n terms)
+    ∙ content_lines-behind skipped (factors_lines n terms) h (factors-plain n terms writable whole)) writable whole
+verdict-behind skipped (Separator w value tree) h writable whole =
+    separator-read _ (1 + length skipped) w value tree
+    (ap (λ (t : List ℕ). content_lines (ended_lines skipped ++ t)) (separator-text w value tree)
+    ∙ content_lines-behind skipped (separator_lines w value tree) h (separator-plain w value tree writable whole).all) writable whole
+
+pub read-behind : (before : List ℕ) (v : Verdict) → IsSkippedText before → IsWritable v → IsWhole v → ProofText (before ++ verdict_text v) v
+read-behind before v h writable whole =
+    subst (λ (t : List ℕ). ProofText (t ++ verdict_text v) v) (sym h.text_is) (verdict-behind h.lines v h.skipped writable whole)

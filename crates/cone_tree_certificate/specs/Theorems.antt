@@ -4,10 +4,11 @@
 --     PairTreesProve      the tree that is split at the pairs is a tree that proves
 --     OnePairTree         W has at most one such tree, whatever the levels
 --     OneVerdict          bytes are the text of one verdict, or have one first fault, and not both
---     WrittenIsRead       the written form of a verdict is a text of that verdict
-use Rattle.std.specs.Prelude.{◌≡◌, ℕ, ◌≤◌, List}
+--     WrittenIsRead       the written form of a verdict is a text of that verdict, also behind lines that are skipped
+use Rattle.std.specs.Prelude.{◌≡◌, ℕ, ◌≤◌, List, ◌++◌}
 use Rattle.exact_forms.specs.Forms.{IsSymmetric}
 use Rattle.exact_forms.specs.Copositive.{Matrix, IsCopositive}
+use Rattle.text_lines.specs.Skipped.{IsSkippedText}
 use Rattle.cone_tree_certificate.specs.declared.verdict.Verdict.{Verdict}
 use Rattle.cone_tree_certificate.specs.Trees.{Lines, TreeProves}
 use Rattle.cone_tree_certificate.specs.PairTrees.{IsPairTree}
@@ -27,4 +28,6 @@ abbrev pub OneVerdict : Type 0
 OneVerdict = (bytes : List ℕ) → HasOneVerdict bytes
 
 abbrev pub WrittenIsRead : Type 0
-WrittenIsRead = (v : Verdict) → IsWritable v → IsWhole v → ProofText (verdict_text v) v
+WrittenIsRead =
+    (before : List ℕ) (v : Verdict) → IsSkippedText before → IsWritable v → IsWhole v
+    → ProofText (before ++ verdict_text v) v

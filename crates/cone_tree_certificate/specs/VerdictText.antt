@@ -5,7 +5,6 @@
 --     written_rows w           the lines of the full symmetric W
 --     written_tree lines       the lines of the tree
 --     verdict_text v           the lines of the verdict, with one space between words and a line feed at the end of each
---     VerdictText bytes v      the bytes are that text
 --     HasSplit n line          a split is of 1 ≤ i < j ≤ n
 --     IsCheckable v            each vector has as many coordinates as the verdict says, and each split is of 1 ≤ i < j ≤ n
 --     IsWritable v             1 to 6 rows, and as IsCheckable
@@ -50,9 +49,6 @@ verdict_text (Separator w value tree) =
     line_of_words (codes "separated" ∷ decimal w.size ∷ []) ++ written_rows w
     ++ line_of_words (codes "value" ∷ quotient_word value ∷ [])
     ++ line_of_words (codes "tree" ∷ decimal (length tree) ∷ []) ++ written_tree tree
-
-abbrev pub VerdictText : List ℕ → Verdict → Type 0
-VerdictText bytes v = bytes ≡ verdict_text v
 
 abbrev pub HasSplit : ℕ → TreeLine → Type 0
 HasSplit n Leaf = Unit {0}

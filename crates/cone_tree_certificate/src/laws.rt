@@ -22,7 +22,7 @@ pub fn text_or_fault()
     ensures { OneVerdict }
 {}
 
-/// The written form of a verdict is a text of that verdict.
+/// The written form of a verdict is a text of that verdict, also behind lines that are skipped.
 pub fn written_is_read()
     ensures { WrittenIsRead }
 {}

@@ -1,11 +1,11 @@
 //! Writing the text of a verdict. The private calls may leave a part of it after an error.
 
-ghost use Rattle.std.specs.Prelude.{◌≡◌, ◌<◌, ◌++◌, [], ◌∷◌, map, codes, OnOk, OnErr};
-ghost use Rattle.std.specs.List.{range_with_len};
+ghost use Rattle.std.specs.Prelude.{◌≡◌, ◌<◌, ◌++◌, [], ◌∷◌, map, pos, codes, OnOk, OnErr};
+ghost use Rattle.std.specs.List.{All, range_with_len};
 ghost use Rattle.std.specs.Fmt.{decimal, signed_decimal};
-ghost use Rattle.symmetric_matrix.specs.Symmetric.{entry};
+ghost use Rattle.symmetric_matrix.specs.Symmetric.{FitsInt, entry};
 ghost use Rattle.text_lines.specs.Spelling.{Extends, spaced_word, line_of_words, quotient_word};
-ghost use Rattle.cone_tree_certificate.specs.VerdictText.{term_words, tree_words, written_terms, written_rows, written_tree, verdict_text, IsWritable};
+ghost use Rattle.cone_tree_certificate.specs.VerdictText.{term_words, tree_words, written_terms, written_rows, written_tree, verdict_text, IsNarrowTerm, IsWritable, IsWhole};
 
 use crate::term_lines::TermLines;
 use crate::tree::{ConeTree, TreeLine};
@@ -19,6 +19,7 @@ use text_lines::writing::{push_number, push_quotient};
 fn push_term(into: &mut Vec<u8>, term: &Term) -> Result<(), AllocError>
     ensures ok { OnOk result (into.new.items ≡ into.old.items ++ line_of_words (term_words term.now)) }
     ensures kept { Extends into.old.items into.new.items }
+    ensures narrow { OnOk result (IsNarrowTerm term.now) }
 {
     push_quotient(into, term.weight)?;
     let coordinates = term.vector.as_slice();
@@ -34,6 +35,7 @@ fn push_term(into: &mut Vec<u8>, term: &Term) -> Result<(), AllocError>
 fn push_terms(into: &mut Vec<u8>, terms: &TermLines) -> Result<(), AllocError>
     ensures ok { OnOk result (into.new.items ≡ into.old.items ++ written_terms terms.now) }
     ensures kept { Extends into.old.items into.new.items }
+    ensures narrow { OnOk result (All IsNarrowTerm terms.now) }
 {
     for index in 0..terms.len() {
         push_term(into, terms.at(index))?;
@@ -142,6 +144,7 @@ fn push_factored(into: &mut Vec<u8>, n: u8, count: usize) -> Result<(), AllocErr
 fn push_factors(into: &mut Vec<u8>, n: u8, terms: &TermLines) -> Result<(), AllocError>
     ensures ok { OnOk result (into.new.items ≡ into.old.items ++ verdict_text (Verdict.Factors n terms.now)) }
     ensures kept { Extends into.old.items into.new.items }
+    ensures whole { OnOk result (IsWhole (Verdict.Factors n terms.now)) }
 {
     push_factored(into, n, terms.len())?;
     push_terms(into, terms)
@@ -152,6 +155,8 @@ fn push_value(into: &mut Vec<u8>, value: Fraction) -> Result<(), AllocError>
     ensures ok { OnOk result (into.new.items
         ≡ into.old.items ++ line_of_words (codes "value" ∷ quotient_word value ∷ [])) }
     ensures kept { Extends into.old.items into.new.items }
+    ensures num { OnOk result (FitsInt value.num) }
+    ensures den { OnOk result (FitsInt (pos value.den)) }
 {
     into.extend_from_slice(b"value ")?;
     push_quotient(into, value)?;
@@ -169,6 +174,7 @@ fn push_separator(
     ensures ok { OnOk result (into.new.items
         ≡ into.old.items ++ verdict_text (Verdict.Separator w.now value tree.now)) }
     ensures kept { Extends into.old.items into.new.items }
+    ensures whole { OnOk result (IsWhole (Verdict.Separator w.now value tree.now)) }
 {
     push_heading(into, b"separated", w.n() as usize)?;
     push_rows(into, w)?;
@@ -180,6 +186,7 @@ fn push_separator(
 fn push_verdict(into: &mut Vec<u8>, v: &Verdict) -> Result<(), AllocError>
     ensures ok { OnOk result (into.new.items ≡ into.old.items ++ verdict_text v.now) }
     ensures kept { Extends into.old.items into.new.items }
+    ensures whole { OnOk result (IsWhole v.now) }
 {
     match v {
         Verdict::Factors { n, terms } => push_factors(into, *n, terms),
@@ -191,10 +198,12 @@ fn push_verdict(into: &mut Vec<u8>, v: &Verdict) -> Result<(), AllocError>
 /// of the list; one space between words, and a line feed at the end of each line.
 ///
 /// n is at most 6, every vector has n coordinates, and each split is of 1 ≤ i < j ≤ n, n being W's number of rows. It is refused
-/// for want of memory alone, and `into` is then as before.
+/// for want of memory alone, and `into` is then as before. A verdict that was written is whole (its numbers are those that
+/// a text may have), so its text is read back.
 pub fn write_verdict(v: &Verdict, into: &mut Vec<u8>) -> Result<(), AllocError>
     requires { IsWritable v.now }
     ensures ok { OnOk result (into.new.items ≡ into.old.items ++ verdict_text v.now) }
+    ensures whole { OnOk result (IsWhole v.now) }
     ensures err { OnErr result (into.new.items ≡ into.old.items) }
 {
     let before = into.len();

@@ -1,13 +1,13 @@
 -- Texts that are written piece by piece.
 use Rattle.std.specs.Prelude.{◌≡◌, ℕ, ◌+◌, ◌<◌, ◌≤◌, List, [], ◌++◌, length, take, drop, Option}
-use Rattle.std.proofs.Common.{refl, suc, sym, ap, ◌∙◌, subst, get_or}
+use Rattle.std.proofs.Common.{refl, suc, sym, ap, ◌∙◌, subst, get_or, append_assoc}
 use Rattle.std.specs.List.{flat_map}
-use Rattle.std.proofs.lemmas.List.{take_all, flat_map_more, take-append-drop, take_more}
+use Rattle.std.proofs.lemmas.List.{append-nil, take_all, flat_map_more, take-append-drop, take_more}
 use Rattle.std.proofs.lemmas.Grind.{flat_map-append}
 use Rattle.std.proofs.Math.Seq.{drop-cons}
 use Rattle.cp_outside.specs.Faults.{RoseOrFull}
 use Rattle.cp_outside.specs.Puts.{OnDone, OnPutFailed, OnPutOutOfMemory, UnlessPutFailed, appended, AppendsFront}
-use Rattle.cp_outside.proofs.PutLaws.{appended-append, AppendsFront-none, AppendsFront-more, AppendsFront-after}
+use Rattle.cp_outside.proofs.PutLaws.{appended-[], appended-append, AppendsFront-none, AppendsFront-more, AppendsFront-after}
 use Rattle.cp_outside.specs.declared.sink.PutEnd.{PutEnd}
 use Rattle.cp_outside.specs.declared.sink.PutEnd.TheVariants.{Done, Failed, OutOfMemory}
 use Rattle.cpfactor_lines.specs.Sinks.{SinkShown, IsPut}
@@ -76,3 +76,39 @@ pub put_stopped : (text bytes rest : List ℕ) (old new : Option (List ℕ)) (be
 put_stopped text bytes rest old new before after Done stopped same front nothing rose quiet = absurd (stopped refl)
 put_stopped text bytes rest old new before after Failed stopped same front nothing rose quiet = (rose, AppendsFront-more old new text rest (subst (AppendsFront old new) same front))
 put_stopped text bytes rest old new before after OutOfMemory stopped same front nothing rose quiet = (quiet, front_unchanged old new (text ++ rest) nothing)
+
+-- ---- a text that is put front by front
+
+-- what was put of a text: a front of it, after which the rest is due
+pub record IsPutSoFar (text rest : List ℕ) (old mid : Option (List ℕ)) (before between : ℕ) : Type 0 where
+  pub done : List ℕ
+  pub parts : text ≡ done ++ rest
+  pub written : mid ≡ appended old done
+  pub quiet : between ≡ before
+
+pub put_begun : (text : List ℕ) (old : Option (List ℕ)) (before : ℕ) → IsPutSoFar text text old old before before
+put_begun text old before = record { done = []; parts = refl; written = sym (appended-[] old); quiet = refl }
+
+pub put_on : (text rest line more : List ℕ) (old mid new : Option (List ℕ)) (before between after : ℕ) → IsPutSoFar text rest old mid before between
+    → rest ≡ line ++ more → new ≡ appended mid line → after ≡ between
+    → IsPutSoFar text more old new before after
+put_on text rest line more old mid new before between after so_far cut put quiet = record {
+  done = so_far.done ++ line;
+  parts = so_far.parts ∙ ap (λ t. so_far.done ++ t) cut ∙ sym (append_assoc so_far.done line more);
+  written = put ∙ ap (λ m. appended m line) so_far.written ∙ appended-append old so_far.done line;
+  quiet = quiet ∙ so_far.quiet;
+}
+
+pub put_cut_off : (text rest line more : List ℕ) (old mid new : Option (List ℕ)) (before between after : ℕ) (end : PutEnd)
+    → IsPutSoFar text rest old mid before between → rest ≡ line ++ more → (end ≡ Done → ⊥)
+    → OnPutFailed end (AppendsFront mid new line) → OnPutOutOfMemory end (new ≡ mid) → OnPutFailed end (RoseOrFull between after)
+    → UnlessPutFailed end (after ≡ between) → IsPut text (shown_by old new before after) end
+put_cut_off text rest line more old mid new before between after end so_far cut stopped front nothing rose quiet =
+    subst (λ (t : List ℕ). IsPut t (shown_by old new before after) end) (sym (so_far.parts ∙ ap (λ t. so_far.done ++ t) cut))
+    (put_behind so_far.done (line ++ more) old mid new before between after end so_far.written so_far.quiet
+    (put_stopped line line more mid new between after end stopped refl front nothing rose quiet))
+
+pub put_whole : (text rest : List ℕ) (old mid : Option (List ℕ)) (before between : ℕ) → IsPutSoFar text rest old mid before between → rest ≡ []
+    → IsPut text (shown_by old mid before between) Done
+put_whole text rest old mid before between so_far none =
+    (so_far.quiet, so_far.written ∙ ap (appended old) (sym (append-nil so_far.done) ∙ ap (λ t. so_far.done ++ t) (sym none) ∙ sym so_far.parts))

@@ -1,7 +1,8 @@
 -- The lines of lists.
-use Rattle.std.specs.Prelude.{◌≡◌, ℕ, zero, suc, ℤ, pos, List, [], ◌∷◌, ◌++◌, length, map, Some, slice_get, slice_index_or, codes}
-use Rattle.std.proofs.Common.{refl, ap, ap₂, ◌∙◌}
+use Rattle.std.specs.Prelude.{◌≡◌, ℕ, zero, suc, ◌≤◌, ℤ, pos, List, [], ◌∷◌, ◌++◌, length, map, take, Some, slice_get, slice_index_or, codes}
+use Rattle.std.proofs.Common.{refl, ap, ap₂, ◌∙◌, append_assoc}
 use Rattle.std.specs.List.{flat_map}
+use Rattle.std.proofs.lemmas.List.{take_all}
 use Rattle.std.specs.Fmt.{decimal, signed_decimal}
 use Rattle.exact_forms.specs.Factors.{WeightedVector}
 use Rattle.unimodular_cone.specs.Paths.{Path}
@@ -14,11 +15,16 @@ item_line f [] k item is = absurd cc
 item_line f (x ∷ xs) zero item is = let e : Some x ≡ Some item = is in ap f (let s : item ≡ x = cc in s)
 item_line f (x ∷ xs) (suc k) item is = item_line f xs k item is
 
-pub term_line_at : (terms : List WeightedVector) (k : ℕ) (item : WeightedVector) (num den : ℤ) (xs : List ℕ) → slice_get terms k ≡ Some item → num ≡ item.weight.num → den ≡ pos item.weight.den → xs ≡ item.vector
-    → line ((signed_decimal num ++ 47 ∷ signed_decimal den) ∷ map decimal xs) ≡ slice_index_or (map term_line terms) k []
+pub term_line_at : (terms : List WeightedVector) (k : ℕ) (item : WeightedVector) → slice_get terms k ≡ Some item
+    → term_line item ≡ slice_index_or (map term_line terms) k []
+term_line_at terms k item is = item_line term_line terms k item is
+
+-- the words of a term's line
+pub term_words_are : (term : WeightedVector) (num den : ℤ) (xs : List ℕ) → num ≡ term.weight.num → den ≡ pos term.weight.den → xs ≡ term.vector
+    → line ((signed_decimal num ++ 47 ∷ signed_decimal den) ∷ map decimal xs) ≡ term_line term
 unfolding term_line
-term_line_at terms k item num den xs is n d v =
-    ap₂ (λ (word : List ℕ) (xs : List ℕ). line (word ∷ map decimal xs)) (ap₂ (λ (n : ℤ) (d : ℤ). signed_decimal n ++ 47 ∷ signed_decimal d) n d) v ∙ item_line term_line terms k item is
+term_words_are term num den xs n d v =
+    ap₂ (λ (word : List ℕ) (xs : List ℕ). line (word ∷ map decimal xs)) (ap₂ (λ (n : ℤ) (d : ℤ). signed_decimal n ++ 47 ∷ signed_decimal d) n d) v
 
 pub vector_line_at : (vectors : List (List ℕ)) (k : ℕ) (item xs : List ℕ) → slice_get vectors k ≡ Some item → xs ≡ item → line (map decimal xs) ≡ slice_index_or (map vector_line vectors) k []
 unfolding vector_line
@@ -32,6 +38,14 @@ flat_map-map f (x ∷ xs) = ap (λ t. f x ++ t) (flat_map-map f xs)
 pub factorization_lines : (n : ℕ) (terms : List WeightedVector) (head : List ℕ) → head ≡ factored_text n (length terms) → head ++ flat_map (λ (l : List ℕ). l) (map term_line terms) ≡ factorization_text n terms
 unfolding factorization_text
 factorization_lines n terms head is = ap₂ (λ (a : List ℕ) (b : List ℕ). a ++ b) is (flat_map-map term_line terms)
+
+-- the lines of the terms, appended behind the line that counts them
+pub terms_appended : (n : ℕ) (terms : List WeightedVector) (count k : ℕ) (old mid new : List ℕ) → count ≡ length terms → length terms ≤ k
+    → mid ≡ old ++ factored_text n count → new ≡ mid ++ flat_map term_line (take k terms)
+    → new ≡ old ++ factorization_text n terms
+unfolding factorization_text
+terms_appended n terms count k old mid new is all e f =
+    rw (f, e, is, take_all k terms all) (append_assoc old (factored_text n (length terms)) (flat_map term_line terms))
 
 abbrev pub count_line : ℕ → List ℕ
 count_line count = line (codes "vectors" ∷ decimal count ∷ [])

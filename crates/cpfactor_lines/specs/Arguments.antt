@@ -12,6 +12,7 @@
 --     plain_before options words k       how many plain arguments stand before place k
 --     plain_argument options words i     the plain argument number i, from 0
 --     option_value words name default    the number in the word after the option of that name, or else the default
+--     has_word words word                one of the words is this one
 --     is_new_option options words k      the word at place k is an option of the command, and no word before it is the same
 --     has_wanted form word otherwise     the word has this form, if one is wanted, and else the other test holds
 --     can_be_read plain options words k  the word at place k has the form wanted there, or is a new option, or has the form
@@ -70,10 +71,13 @@ unfoldable pub option_value : List (List ℕ) → List ℕ → ℕ → ℕ
 option_value words name default =
     option_map_or (λ k. digits_value 10 (word_at words (suc k))) (position (λ word. bytes_eq word name) words) default
 
+abbrev pub has_word : List (List ℕ) → List ℕ → Bool
+has_word words word = list_any (λ other. bytes_eq other word) words
+
 abbrev pub is_new_option : List OptionRow → List (List ℕ) → ℕ → Bool
 is_new_option options words k =
     is_some (option_named options (word_at words k))
-    && not (list_any (λ word. bytes_eq word (word_at words k)) (take k words))
+    && not (has_word (take k words) (word_at words k))
 
 abbrev pub has_wanted : Option Form → List ℕ → Bool → Bool
 has_wanted form word otherwise = option_map_or (λ f. has_form f word) form otherwise

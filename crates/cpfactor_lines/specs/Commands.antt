@@ -1,12 +1,18 @@
 -- The commands, and what a command line asks for.
 --
---     Request                  a command with what its words say: names of files as bytes, then a depth
+--     Request                  a command with what its words say: names of files as bytes, then a depth, or the limits
+--                              of the walk and whether its trace is wanted
 --     HasRanges r              the numbers of a request are in their ranges
 --     CommandRow               a command: its name, the forms of its plain arguments, its options, and its request, of the
 --                              plain arguments by their number from 0, and of the words
 --     solve, check, minimum, copositive    the rows of the commands
+--     pivots                   the option `--pivots`, with a number from 0 to 100000
 --     depth                    the option `--depth`, with a number from 0 to 200
---     depth_of words           the number after it, or else 60
+--     trace                    the option `--trace`, which stands alone
+--     pivots_of words          the number after `--pivots`, or else 10000
+--     depth_of words           the number after `--depth`, or else 60
+--     limits_of words          these two
+--     is_traced words          `--trace` is among the words
 --     commands                 the commands of the program
 --     request_or_fault fault r the request, or the position of the word at the place that is at fault
 --     read_as row words        how the words after its name are read by a command's row; without a row, the name is at fault
@@ -18,18 +24,19 @@
 -- Options and plain arguments come in any order. An unknown command is at fault at position 1, an unknown or
 -- repeated option and a surplus plain argument at their own, a number out of form at the number's, and a missing
 -- word at the position after the last.
-use Rattle.std.specs.Prelude.{◌≡◌, ◌≤◌, ℕ, ◌+◌, List, [], ◌∷◌, Option, Some, None, Result, Ok, Err, ◌⊎◌, find, codes}
+use Rattle.std.specs.Prelude.{◌≡◌, ◌≤◌, ℕ, ◌+◌, Bool, List, [], ◌∷◌, Option, Some, None, Result, Ok, Err, ◌⊎◌, find, codes}
 use Rattle.std.specs.Str.{bytes_eq}
-use Rattle.cpfactor_lines.specs.Arguments.{Form, FileName, Number, OptionRow, plain_argument, option_value, fault_place}
+use Rattle.perfect_walk.specs.declared.journal.Limits.{Limits}
+use Rattle.cpfactor_lines.specs.Arguments.{Form, FileName, Number, OptionRow, plain_argument, option_value, has_word, fault_place}
 
 pub data Request : Type 0 where
-  Solve : List ℕ → Request
+  Solve : List ℕ → Limits → Bool → Request
   Check : List ℕ → List ℕ → Request
   Minimum : List ℕ → ℕ → Request
   Copositive : List ℕ → ℕ → Request
 
 abbrev pub HasRanges : Request → Type 0
-HasRanges (Solve file) = Unit {0}
+HasRanges (Solve file limits traced) = (limits.pivots ≤ 100000) × (limits.depth ≤ 200)
 HasRanges (Check file proof) = Unit {0}
 HasRanges (Minimum file depth) = depth ≤ 200
 HasRanges (Copositive file depth) = depth ≤ 200
@@ -40,9 +47,35 @@ pub record CommandRow : Type 0 where
   pub options : List OptionRow
   pub request : (ℕ → List ℕ) → List (List ℕ) → Request
 
--- solve FILE
+abbrev pub pivots : OptionRow
+pivots = record { name = codes "--pivots"; value = Some (Number 0 100000) }
+
+abbrev pub depth : OptionRow
+depth = record { name = codes "--depth"; value = Some (Number 0 200) }
+
+abbrev pub trace : OptionRow
+trace = record { name = codes "--trace"; value = None }
+
+abbrev pub pivots_of : List (List ℕ) → ℕ
+pivots_of words = option_value words (codes "--pivots") 10000
+
+abbrev pub depth_of : List (List ℕ) → ℕ
+depth_of words = option_value words (codes "--depth") 60
+
+abbrev pub limits_of : List (List ℕ) → Limits
+limits_of words = record { pivots = pivots_of words; depth = depth_of words }
+
+abbrev pub is_traced : List (List ℕ) → Bool
+is_traced words = has_word words (codes "--trace")
+
+-- solve FILE [--pivots N] [--depth N] [--trace]
 abbrev pub solve : CommandRow
-solve = record { name = codes "solve"; plain = FileName ∷ []; options = []; request = λ plain words. Solve (plain 0) }
+solve = record {
+  name = codes "solve";
+  plain = FileName ∷ [];
+  options = pivots ∷ depth ∷ trace ∷ [];
+  request = λ plain words. Solve (plain 0) (limits_of words) (is_traced words);
+}
 
 -- check FILE PROOF
 abbrev pub check : CommandRow
@@ -52,12 +85,6 @@ check = record {
   options = [];
   request = λ plain words. Check (plain 0) (plain 1);
 }
-
-abbrev pub depth : OptionRow
-depth = record { name = codes "--depth"; value = Some (Number 0 200) }
-
-abbrev pub depth_of : List (List ℕ) → ℕ
-depth_of words = option_value words (codes "--depth") 60
 
 -- minimum FILE [--depth N]
 abbrev pub minimum : CommandRow

@@ -1,8 +1,10 @@
 pub mod Lines
 pub mod Texts
+pub mod Traces
 pub mod Sinks
 pub mod Arguments
 pub mod Commands
 pub mod Requests
 pub mod ReaderStates
 pub mod CheckTexts
+pub mod Acceptable

@@ -28,7 +28,7 @@ abbrev pub texts : List (String Global) → List (List ℕ)
 texts words = map string_bytes words
 
 abbrev pub request_of : Command → Request
-request_of (Solve file) = the.Solve file.now
+request_of (Solve file limits trace) = the.Solve file.now limits trace
 request_of (Check file proof) = the.Check file.now proof.now
 request_of (Minimum file depth) = the.Minimum file.now depth
 request_of (Copositive file depth) = the.Copositive file.now depth

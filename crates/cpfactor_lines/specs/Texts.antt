@@ -13,8 +13,10 @@
 --     overflow_text place op       `refused overflow PLACE KIND LEFT RIGHT`, for an operation at a place
 --     entry_text path kind i j     `refused overflow Gram PATH KIND I J`, for an entry of the cone of a path
 --     wide_text path at            that line, with the kind and the two numbers of the entry
---     owed_text owed               the line of what doesn't fit: one of these, or `refused overflow Bound DIAGONAL`
+--     owed_text owed               the line of what doesn't fit: one of these, or `refused overflow Bound DIAGONAL`. An
+--                                  operation of the ray has the place `Ray`, in its entries and in its clearing
 --     depth_text path              `refused depth PATH`
+--     pivots_text limit            `refused pivots N`, for the limit of steps
 --     value_text z d               the fraction z over d
 --     vector_line x                the line of a vector's coordinates
 --     vectors_text vectors         the line `vectors c`, then the lines of the c vectors
@@ -22,7 +24,6 @@
 --     minimum_text d m vectors     that line, then the text of the vectors
 --     low_text d x z path          `low value p/q path PATH vector x1 x2 ..` for the value z over d
 --     copositive_text n            `copositive n`
---     outside_text                 `refused not-yet outside`
 --     read_text, memory_text       `refused read`, `refused memory`
 use Rattle.std.specs.Prelude.{ℕ, ℤ, nat_abs, List, [], ◌∷◌, ◌++◌, length, map, codes}
 use Rattle.std.specs.List.{flat_map}
@@ -37,8 +38,9 @@ use Rattle.matrix_text.specs.declared.fault.TextKind.{TextKind}
 use Rattle.matrix_text.specs.declared.fault.TextKind.TheVariants.{NotAscii, NoHeader, BadVersion, BadDimension, MissingRow, ShortRow, LongRow, BadNumber, ZeroDenominator, NumberTooLarge, NotSymmetric, ExtraLine}
 use Rattle.unimodular_cone.specs.Paths.{Path}
 use Rattle.unimodular_cone.specs.declared.WideEntry.{WideEntry}
-use Rattle.cpfactor_lines.specs.declared.owed.Owed.{Owed}
-use Rattle.cpfactor_lines.specs.declared.owed.Owed.TheVariants.{Clear, Start, Gram, Bound}
+use Rattle.perfect_walk.specs.declared.journal.Owed.{Owed}
+use Rattle.perfect_walk.specs.declared.journal.Owed.TheVariants.{Clear, Inner, Tableau, RayEntry, RayClear, Form}
+use Rattle.perfect_walk.specs.declared.journal.Owed.TheVariants.{Scale, Gram, Bound, Weight}
 use Rattle.cpfactor_lines.specs.Lines.{line, path_word}
 
 abbrev pub fraction_text : Rational → List ℕ
@@ -97,12 +99,21 @@ wide_text path (WideEntry.Gram row column) = entry_text path (codes "gram") row 
 
 abbrev pub owed_text : Owed → List ℕ
 owed_text (Clear row column op) = overflow_text (codes "Clear") op
-owed_text (Start vector op) = overflow_text (codes "Start") op
+owed_text (Inner op) = overflow_text (codes "Inner") op
+owed_text (Tableau entry) = overflow_text (codes "Tableau") entry.op
+owed_text (RayEntry entry) = overflow_text (codes "Ray") entry.op
+owed_text (RayClear op) = overflow_text (codes "Ray") op
+owed_text (Form vector op) = overflow_text (codes "Form") op
+owed_text (Scale op) = overflow_text (codes "Scale") op
 owed_text (Gram at) = wide_text at.path at.entry
 owed_text (Bound diagonal) = refusal (codes "overflow" ∷ codes "Bound" ∷ signed_decimal diagonal ∷ [])
+owed_text (Weight vector op) = overflow_text (codes "Weight") op
 
 abbrev pub depth_text : Path → List ℕ
 depth_text path = refusal (codes "depth" ∷ path_word path ∷ [])
+
+abbrev pub pivots_text : ℕ → List ℕ
+pivots_text limit = refusal (codes "pivots" ∷ decimal limit ∷ [])
 
 abbrev pub value_text : ℤ → ℤ → List ℕ
 value_text z d = fraction_text (ratio z (nat_abs d))
@@ -125,9 +136,6 @@ low_text d x z path = line (codes "low" ∷ codes "value" ∷ value_text z d ∷
 
 abbrev pub copositive_text : ℕ → List ℕ
 copositive_text n = line (codes "copositive" ∷ decimal n ∷ [])
-
-abbrev pub outside_text : List ℕ
-outside_text = refusal (codes "not-yet" ∷ codes "outside" ∷ [])
 
 abbrev pub read_text : List ℕ
 read_text = refusal (codes "read" ∷ [])

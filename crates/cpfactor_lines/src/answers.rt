@@ -4,7 +4,7 @@
 ghost use Rattle.std.specs.Prelude.{◌≡◌, ◌≤ℤ◌, pos, IfOk};
 ghost use Rattle.symmetric_matrix.specs.Symmetric.{FitsInt};
 ghost use Rattle.cpfactor_lines.specs.Lines.{word_text};
-ghost use Rattle.cpfactor_lines.specs.Texts.{value_text, factored_text, least_text, low_text, copositive_text};
+ghost use Rattle.cpfactor_lines.specs.Texts.{value_text, least_text, low_text, copositive_text};
 
 use crate::line::{Word, words_line, words_line_of};
 use fraction128::Fraction;
@@ -23,20 +23,6 @@ fn value_word<'a>(value: i128, d: i128) -> Word<'a>
         num: value.num(),
         den: value.den(),
     }
-}
-
-/// That a matrix of n rows is factored by some terms.
-pub fn factored_line(alloc: Global, n: u8, count: usize) -> Result<Vec<u8>, AllocError>
-    ensures { IfOk result (λ text. text.items ≡ factored_text n count) }
-{
-    words_line(
-        alloc,
-        &[
-            Word::Text(b"factored"),
-            Word::Whole(u64::from(n)),
-            Word::Whole(count as u64),
-        ],
-    )
 }
 
 /// A minimum.

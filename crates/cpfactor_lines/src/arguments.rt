@@ -1,9 +1,8 @@
 //! Reading the words after a command's name, by the command's row.
 
 ghost use Rattle.std.specs.Prelude.{◌≡◌, ◌+◌, ◌*◌, ◌<◌, ◌≤◌, true, length, Some, None, option_map, IfOk, IfErr};
-ghost use Rattle.std.specs.List.{list_all, list_any};
-ghost use Rattle.std.specs.Str.{bytes_eq};
-ghost use Rattle.cpfactor_lines.specs.Arguments.{is_option, can_be_read, fault_place, option_value};
+ghost use Rattle.std.specs.List.{list_all};
+ghost use Rattle.cpfactor_lines.specs.Arguments.{is_option, has_word, can_be_read, fault_place, option_value};
 ghost use Rattle.cpfactor_lines.specs.Requests.{texts, plain_of, options_of, IsNumberOption};
 ghost use Rattle.cpfactor_lines.specs.ReaderStates.{most_plain, HasRead, ArePlaces};
 
@@ -61,8 +60,8 @@ impl ArgumentReader {
 }
 
 /// Whether a word is one of these.
-fn is_among(word: &str, words: &[String]) -> bool
-    ensures { result ≡ list_any (λ other. bytes_eq other word.now) (texts words.now) }
+pub fn is_among(word: &str, words: &[String]) -> bool
+    ensures { result ≡ has_word (texts words.now) word.now }
 {
     words.iter().any(|other| other.as_str() == word)
 }

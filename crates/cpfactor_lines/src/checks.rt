@@ -4,6 +4,7 @@ ghost use Rattle.std.specs.Prelude.{◌≡◌, ℕ, List, IfOk};
 ghost use Rattle.exact_forms.specs.Factors.{WeightedVector};
 ghost use Rattle.cone_tree_certificate.specs.declared.verdict.Verdict.TheVariants.{Factors};
 ghost use Rattle.cone_tree_certificate.specs.VerdictText.{verdict_text};
+ghost use Rattle.cpfactor_lines.specs.Acceptable.{RightIsAcceptable};
 ghost use Rattle.cpfactor_lines.specs.Texts.{factorization_text};
 ghost use Rattle.cpfactor_lines.specs.CheckTexts.{proof_too_long_text, proof_fault_text, failed_text, failed_text_at, differing_text, checked_text};
 
@@ -92,6 +93,13 @@ fn differing_line(alloc: Global, row: u8, column: u8) -> Result<Vec<u8>, AllocEr
         ],
     )
 }
+
+/// The written form of a right verdict whose vectors increase, behind a trace or not, is the text of that verdict alone;
+/// and none of its checks fails, or the first that does is an operation whose result does not fit. So `check` accepts
+/// what `solve` writes, or names that operation.
+pub fn right_verdicts_are_acceptable()
+    ensures { RightIsAcceptable }
+{}
 
 /// The text of a factorization is the one written form of the verdict with these terms. So `check` reads what `solve` writes.
 pub fn factorizations_are_verdicts()

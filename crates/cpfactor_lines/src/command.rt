@@ -1,16 +1,31 @@
 //! What a command line asks for, and how it is refused.
 
+use perfect_walk::Limits;
+
 /// A command, with what its words say.
 #[derive(Clone, Copy, Debug, PartialEq, Eq)]
 pub enum Command<'a> {
-    /// `solve FILE`: factors or separates the matrix of a file.
-    Solve { file: &'a str },
+    /// `solve FILE [--pivots N] [--depth N] [--trace]`: factors or separates the matrix of a file.
+    Solve {
+        file: &'a str,
+        limits: Limits,
+        trace: bool,
+    },
     /// `check FILE PROOF`: checks a verdict on the matrix of a file.
-    Check { file: &'a str, proof: &'a str },
+    Check {
+        file: &'a str,
+        proof: &'a str,
+    },
     /// `minimum FILE [--depth N]`: the copositive minimum of the matrix of a file, and its minimal vectors.
-    Minimum { file: &'a str, depth: u8 },
+    Minimum {
+        file: &'a str,
+        depth: u8,
+    },
     /// `copositive FILE [--depth N]`: whether the matrix of a file is copositive.
-    Copositive { file: &'a str, depth: u8 },
+    Copositive {
+        file: &'a str,
+        depth: u8,
+    },
 }
 
 /// A command line that is none of the program's.

@@ -2,12 +2,11 @@
 
 ghost use Rattle.std.specs.Prelude.{◌≡◌, ◌<◌, ◌++◌, ℕ, List, [], length, map, OnOk, slice_index_or};
 ghost use Rattle.std.specs.List.{flat_map};
-ghost use Rattle.cpfactor_lines.specs.Texts.{term_line, vector_line};
+ghost use Rattle.cpfactor_lines.specs.Texts.{vector_line};
 ghost use Rattle.cpfactor_lines.specs.Sinks.{IsPut, sink_shown};
 
-use crate::line::{Word, push_line_of};
+use crate::line::push_line_of;
 use cp_outside::{PutEnd, Sink};
-use fraction128::Terms;
 use std::alloc::AllocError;
 use symmetric_matrix::VectorList;
 
@@ -23,23 +22,6 @@ pub trait Listing {
     fn push_item(&self, k: usize, into: &mut Vec<u8>) -> Result<(), AllocError>
         requires { k < length (lines self.now) }
         ensures { OnOk result (into.new.items ≡ into.old.items ++ slice_index_or (lines self.now) k []) };
-}
-
-impl Listing for Terms {
-    ghost lines = { λ terms. map term_line terms };
-
-    fn count(&self) -> usize {
-        self.len()
-    }
-
-    fn push_item(&self, k: usize, into: &mut Vec<u8>) -> Result<(), AllocError> {
-        let term = self.at(k);
-        let weight = Word::Fraction {
-            num: term.weight.num(),
-            den: term.weight.den(),
-        };
-        push_line_of(into, &[weight], term.vector.as_slice())
-    }
 }
 
 impl Listing for VectorList {

@@ -1,12 +1,12 @@
 //! The lines of refusals. Each is refused for want of memory alone.
 
 ghost use Rattle.std.specs.Prelude.{◌≡◌, IfOk};
-ghost use Rattle.cpfactor_lines.specs.Texts.{usage_text, fault_text, depth_text, overflow_text, wide_text, entry_text, owed_text};
+ghost use Rattle.cpfactor_lines.specs.Texts.{usage_text, fault_text, depth_text, pivots_text, overflow_text, wide_text, entry_text, owed_text};
 
 use crate::line::{Word, words_line};
 use crate::names::{fault_name, operation_name};
-use crate::owed::Owed;
 use matrix_text::TextFault;
+use perfect_walk::Owed;
 use std::alloc::{AllocError, Global};
 use symmetric_matrix::IntOp;
 use unimodular_cone::{Path, WideAt, WideEntry};
@@ -54,13 +54,32 @@ pub fn depth_line(alloc: Global, path: &Path) -> Result<Vec<u8>, AllocError>
     )
 }
 
+/// That the walk would need more steps than this limit.
+pub fn pivots_line(alloc: Global, limit: u32) -> Result<Vec<u8>, AllocError>
+    ensures { IfOk result (λ text. text.items ≡ pivots_text limit) }
+{
+    words_line(
+        alloc,
+        &[
+            Word::Text(b"refused"),
+            Word::Text(b"pivots"),
+            Word::Whole(u64::from(limit)),
+        ],
+    )
+}
+
 /// That something doesn't fit.
 pub fn owed_line(alloc: Global, owed: &Owed) -> Result<Vec<u8>, AllocError>
     ensures { IfOk result (λ text. text.items ≡ owed_text owed.now) }
 {
     match owed {
         Owed::Clear { op, .. } => operation_line(alloc, b"Clear", op),
-        Owed::Start { op, .. } => operation_line(alloc, b"Start", op),
+        Owed::Inner { op } => operation_line(alloc, b"Inner", op),
+        Owed::Tableau { op: entry } => operation_line(alloc, b"Tableau", &entry.op),
+        Owed::RayEntry { op: entry } => operation_line(alloc, b"Ray", &entry.op),
+        Owed::RayClear { op } => operation_line(alloc, b"Ray", op),
+        Owed::Form { op, .. } => operation_line(alloc, b"Form", op),
+        Owed::Scale { op } => operation_line(alloc, b"Scale", op),
         Owed::Gram { at } => entry_line(alloc, at),
         Owed::Bound { diagonal } => words_line(
             alloc,
@@ -71,6 +90,7 @@ pub fn owed_line(alloc: Global, owed: &Owed) -> Result<Vec<u8>, AllocError>
                 Word::Signed(*diagonal),
             ],
         ),
+        Owed::Weight { op, .. } => operation_line(alloc, b"Weight", op),
     }
 }
 

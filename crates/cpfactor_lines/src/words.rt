@@ -2,12 +2,22 @@
 
 ghost use Rattle.std.specs.Prelude.{◌≡◌, ℕ, ◌+◌, ◌≤◌, List, Some, None, Ok, Err, IfOk, IfErr, option_map};
 ghost use Rattle.cpfactor_lines.specs.Arguments.{fault_place, plain_argument};
-ghost use Rattle.cpfactor_lines.specs.Commands.{HasRanges, IsCommandLine, IsUsageAt, IsReadOneWay, read_as, solve, check, minimum, copositive, depth_of};
+ghost use Rattle.cpfactor_lines.specs.Commands.{HasRanges, IsCommandLine, IsUsageAt, IsReadOneWay, read_as, solve, check, minimum, copositive, depth_of, limits_of};
 ghost use Rattle.cpfactor_lines.specs.Requests.{texts, request_of};
 
-use crate::arguments::{option_value, plain_places};
+use crate::arguments::{is_among, option_value, plain_places};
 use crate::command::{Command, Usage};
 use crate::row::{CommandRow, Form, OptionRow};
+use perfect_walk::Limits;
+
+/// The limit of the walk's steps.
+const PIVOTS_OPTION: OptionRow = OptionRow {
+    name: "--pivots",
+    value: Some(Form::Number {
+        low: 0,
+        high: 100_000,
+    }),
+};
 
 /// The depth of a search.
 const DEPTH_OPTION: OptionRow = OptionRow {
@@ -15,10 +25,16 @@ const DEPTH_OPTION: OptionRow = OptionRow {
     value: Some(Form::Number { low: 0, high: 200 }),
 };
 
-/// `solve FILE`.
+/// That the trace of the walk is wanted.
+const TRACE_OPTION: OptionRow = OptionRow {
+    name: "--trace",
+    value: None,
+};
+
+/// `solve FILE [--pivots N] [--depth N] [--trace]`.
 const SOLVE_ROW: CommandRow = CommandRow {
     plain: &[Form::FileName],
-    options: &[],
+    options: &[PIVOTS_OPTION, DEPTH_OPTION, TRACE_OPTION],
 };
 
 /// `check FILE PROOF`.
@@ -32,6 +48,9 @@ const SEARCH_ROW: CommandRow = CommandRow {
     plain: &[Form::FileName],
     options: &[DEPTH_OPTION],
 };
+
+/// The limit of the walk's steps where none is named.
+const USUAL_PIVOTS: u64 = 10_000;
 
 /// The depth of a search that names none.
 const USUAL_DEPTH: u64 = 60;
@@ -67,7 +86,22 @@ fn solve(words: &[String]) -> Result<Command<'_>, Usage>
     let [file, ..] = plain_places(&SOLVE_ROW, words)?;
     Ok(Command::Solve {
         file: words[file].as_str(),
+        limits: limits(words),
+        trace: is_among(TRACE_OPTION.name, words),
     })
+}
+
+/// The limits of the walk that the words of `solve` name.
+fn limits(words: &[String]) -> Limits
+    requires { fault_place solve.plain solve.options (texts words.now) ≡ None }
+    ensures value { result ≡ limits_of (texts words.now) }
+    ensures pivots { result.pivots ≤ 100000 }
+    ensures depth { result.depth ≤ 200 }
+{
+    Limits {
+        pivots: option_value(&SOLVE_ROW, words, PIVOTS_OPTION.name, USUAL_PIVOTS) as u32,
+        depth: option_value(&SOLVE_ROW, words, DEPTH_OPTION.name, USUAL_DEPTH) as u8,
+    }
 }
 
 /// The command `check` with these words after its name.
@@ -149,7 +183,7 @@ mod tests {
     }
 
     /// Each with the command that it asks for.
-    const READ: [(&str, Command<'static>); 10] = [
+    const READ: [(&str, Command<'static>); 7] = [
         (
             "check a b",
             Command::Check {
@@ -157,9 +191,6 @@ mod tests {
                 proof: "b",
             },
         ),
-        ("solve a", Command::Solve { file: "a" }),
-        ("solve -", Command::Solve { file: "-" }),
-        ("solve -a", Command::Solve { file: "-a" }),
         (
             "minimum a",
             Command::Minimum {
@@ -204,8 +235,22 @@ mod tests {
         ),
     ];
 
+    /// Command lines of `solve`, each with the file, the limits of steps and depth, and whether the trace is wanted.
+    const SOLVED: [(&str, &str, u32, u8, bool); 10] = [
+        ("solve a", "a", 10_000, 60, false),
+        ("solve -", "-", 10_000, 60, false),
+        ("solve -a", "-a", 10_000, 60, false),
+        ("solve a --pivots 0", "a", 0, 60, false),
+        ("solve a --pivots 100000", "a", 100_000, 60, false),
+        ("solve --depth 0 a", "a", 10_000, 0, false),
+        ("solve a --depth 200", "a", 10_000, 200, false),
+        ("solve a --trace", "a", 10_000, 60, true),
+        ("solve --trace a", "a", 10_000, 60, true),
+        ("solve --depth 7 --trace a --pivots 3", "a", 3, 7, true),
+    ];
+
     /// Each with the position of its first fault.
-    const FAULTY: [(&str, u32); 32] = [
+    const FAULTY: [(&str, u32); 46] = [
         ("check a", 3),
         ("check a b c", 4),
         ("check a --depth 5", 3),
@@ -215,11 +260,25 @@ mod tests {
         ("Solve a", 1),
         ("--trace solve a", 1),
         ("solve", 2),
-        ("solve --trace", 2),
+        ("solve --trace", 3),
         ("solve --", 2),
-        ("solve --trace a", 2),
+        ("solve --trace a b", 4),
         ("solve a b", 3),
-        ("solve a --depth 201", 3),
+        ("solve a --depth 201", 4),
+        ("solve a --pivots 01", 4),
+        ("solve a --pivots 100001", 4),
+        ("solve a --pivots -1", 4),
+        ("solve a --pivots 18446744073709551616", 4),
+        ("solve a --pivots --trace", 4),
+        ("solve a --pivots", 4),
+        ("solve --pivots 5", 4),
+        ("solve --pivots a", 3),
+        ("solve a --trace --trace", 4),
+        ("solve a --trace 5", 4),
+        ("solve a --pivots 5 --depth 6 --pivots 5", 7),
+        ("solve a --depth 5 --trace --depth 5", 6),
+        ("solve a --workers 1", 3),
+        ("solve a --trace=1", 3),
         ("solve a --x=1", 3),
         ("solve a b --x", 3),
         ("minimum a --depth 201", 4),
@@ -244,6 +303,20 @@ mod tests {
     fn command_lines_are_read(rt: HostRuntime) -> Result<(), Fail> {
         for (line, command) in READ {
             let words = words_of(rt.alloc(), line)?;
+            assert_eq!(rt; read_words(&words), Ok(command), "at {line}");
+        }
+        Ok(())
+    }
+
+    #[test]
+    fn command_lines_of_solve_are_read(rt: HostRuntime) -> Result<(), Fail> {
+        for (line, file, pivots, depth, trace) in SOLVED {
+            let words = words_of(rt.alloc(), line)?;
+            let command = Command::Solve {
+                file,
+                limits: Limits { pivots, depth },
+                trace,
+            };
             assert_eq!(rt; read_words(&words), Ok(command), "at {line}");
         }
         Ok(())

@@ -1,5 +1,5 @@
 -- From one layer's answers to the next, and that one ending alone is due.
-use Rattle.std.specs.Prelude.{◌≡◌, ℕ, ℤ, pos, ◌≤ℤ◌, nat_abs, List, Some, Ok}
+use Rattle.std.specs.Prelude.{◌≡◌, ℕ, Bool, ℤ, pos, ◌≤ℤ◌, nat_abs, List, Option, None, Some, Ok}
 use Rattle.std.proofs.Common.{refl, sym, ap, ◌∙◌, subst, inl, inr}
 use Rattle.symmetric_matrix.specs.Owed.{answer}
 use Rattle.symmetric_matrix.specs.Symmetric.{Symmetric, entry}
@@ -13,13 +13,20 @@ use Rattle.unimodular_cone.specs.Answer.{SearchAnswer, BoundWide, Wide, Low, Dep
 use Rattle.unimodular_cone.proofs.AnswerUnique.{answer_unique}
 use Rattle.cpfactor_top.specs.declared.ended.Ended.{Ended}
 use Rattle.cpfactor_top.specs.declared.ended.Cause.TheVariants as cause
-use Rattle.cpfactor_lines.specs.declared.owed.Owed.TheVariants.{Clear}
-use Rattle.cpfactor_top.specs.Causes.{ending, HasStatus}
-use Rattle.cpfactor_top.specs.Given.{whole_of, IsClearable, IsQuotient, IsClearRefused}
-use Rattle.cpfactor_top.specs.Solving.{IsSolveDue, IsSolved}
+use Rattle.perfect_walk.specs.declared.journal.Owed.TheVariants.{Clear}
+use Rattle.perfect_walk.specs.declared.journal.Limits.{Limits}
+use Rattle.perfect_walk.specs.declared.journal.Journal.{Journal}
+use Rattle.perfect_walk.specs.declared.journal.End.{End}
+use Rattle.perfect_walk.specs.declared.journal.End.TheVariants as end
+use Rattle.perfect_walk.specs.Theorems.{IsSameWalk}
+use Rattle.perfect_walk.proofs.OneWalk.{one_walk}
+use Rattle.walk_verdict.specs.Verdicts.{task_of}
+use Rattle.cpfactor_top.specs.Causes.{ending_with, ending, HasStatus}
+use Rattle.matrix_text.specs.Quotients.{whole_of, IsClearable, IsQuotient}
+use Rattle.cpfactor_top.specs.Given.{IsClearRefused}
+use Rattle.cpfactor_top.specs.Solving.{no_visit, ending_by, ending_of, IsWalkDue, IsSolveDue, IsSolved}
 use Rattle.cpfactor_top.specs.Searching.{search_ending, IsFoundDue, IsFound, IsSearchDue, IsSearched}
 use Rattle.cpfactor_top.specs.Answers.{IsBytesDue, IsBytesAnswer}
-use Rattle.cpfactor_top.proofs.StartAnswers.{start_once, start_is_due, start_status}
 
 -- ---- what a command answers of a matrix: each answer is due, one ending alone is, and its status goes with its cause
 pub record IsQuestion (answers : RationalMatrix → Ended → List ℕ → Type 0) (due : RationalMatrix → Ended → Type 0) : Type 0 where
@@ -28,40 +35,56 @@ pub record IsQuestion (answers : RationalMatrix → Ended → List ℕ → Type 
   pub status : (a : RationalMatrix) (e : Ended) → due a e → HasStatus e
 
 -- ---- clearing
-refused_once : (a : RationalMatrix) (e f : Ended) → IsClearRefused a e → IsClearRefused a f → e ≡ f
-refused_once a e f h k =
+refused_once : (journal : Option Journal) (a : RationalMatrix) (e f : Ended) → IsClearRefused journal a e → IsClearRefused journal a f → e ≡ f
+refused_once journal a e f h k =
     let one : Some h.op ≡ Some k.op = sym h.first ∙ k.first in
-    h.ended ∙ ap (λ (p : PlacedOp). ending (cause.Overflow (Clear p.row p.column p.op))) (let same : h.op ≡ k.op = cc in same) ∙ sym k.ended
+    h.ended ∙ ap (λ (p : PlacedOp). ending_with journal (cause.Overflow (Clear p.row p.column p.op))) (let same : h.op ≡ k.op = cc in same) ∙ sym k.ended
 
-clearable_not_refused : (a : RationalMatrix) (e : Ended) → IsClearable a → IsClearRefused a e → ⊥
-clearable_not_refused a e none h = absurd (let some = h.first in cc)
+clearable_not_refused : (journal : Option Journal) (a : RationalMatrix) (e : Ended) → IsClearable a → IsClearRefused journal a e → ⊥
+clearable_not_refused journal a e none h = absurd (let some = h.first in cc)
 
 -- ---- solve
-solve_once : (a : RationalMatrix) (e f : Ended) → IsSolveDue a e → IsSolveDue a f → e ≡ f
-solve_once a e f (inl h) (inl k) = refused_once a e f h k
-solve_once a e f (inl h) (inr (none, k)) = absurd (clearable_not_refused a e none h)
-solve_once a e f (inr (none, h)) (inl k) = absurd (clearable_not_refused a f none k)
-solve_once a e f (inr (none, h)) (inr (none', k)) = start_once a e f h k
+walk_once : (limits : Limits) (a : RationalMatrix) (e f : Ended) → IsWalkDue limits a e → IsWalkDue limits a f → e ≡ f
+walk_once limits a e f h k = by (one_walk (task_of a limits.depth) limits.pivots h.walked h.walk k.walked k.walk)
+  where
+    by : IsSameWalk h.walked k.walked → e ≡ f
+    by (inl same) = h.ended ∙ ap (ending_of limits.pivots) same ∙ sym k.ended
+    by (inr (inl memory)) = absurd (h.in_memory memory)
+    by (inr (inr memory)) = absurd (k.in_memory memory)
 
-solve_is_due : (a : RationalMatrix) (e : Ended) (text : List ℕ) → IsSolved a e text → IsSolveDue a e
-solve_is_due a e text (inl h) = inl h.0
-solve_is_due a e text (inr (none, h)) = inr (none, start_is_due a e text h)
+solve_once : (limits : Limits) (a : RationalMatrix) (e f : Ended) → IsSolveDue limits a e → IsSolveDue limits a f → e ≡ f
+solve_once limits a e f (inl h) (inl k) = refused_once (Some no_visit) a e f h k
+solve_once limits a e f (inl h) (inr k) = absurd (clearable_not_refused (Some no_visit) a e k.clearable h)
+solve_once limits a e f (inr h) (inl k) = absurd (clearable_not_refused (Some no_visit) a f h.clearable k)
+solve_once limits a e f (inr h) (inr k) = walk_once limits a e f h k
 
-solve_status : (a : RationalMatrix) (e : Ended) → IsSolveDue a e → HasStatus e
-solve_status a e (inl h) = subst HasStatus (sym h.ended) (inl refl)
-solve_status a e (inr (none, h)) = start_status a e h
+solve_is_due : (traced : Bool) (limits : Limits) (a : RationalMatrix) (e : Ended) (text : List ℕ) → IsSolved traced limits a e text → IsSolveDue limits a e
+solve_is_due traced limits a e text (inl h) = inl h.0
+solve_is_due traced limits a e text (inr h) = inr h.due
 
-pub solving : IsQuestion IsSolved IsSolveDue
-solving = record { is_due = solve_is_due; once = solve_once; status = solve_status }
+end_status : (limit : ℕ) (journal : Journal) (e : End) → HasStatus (ending_by limit journal e)
+end_status limit journal (end.Factored terms) = inl refl
+end_status limit journal (end.Separated w value) = inr (refl, refl)
+end_status limit journal (end.Depth path) = inl refl
+end_status limit journal end.Pivots = inl refl
+end_status limit journal (end.Overflow owed) = inl refl
+end_status limit journal end.OutOfMemory = inl refl
+
+solve_status : (limits : Limits) (a : RationalMatrix) (e : Ended) → IsSolveDue limits a e → HasStatus e
+solve_status limits a e (inl h) = subst HasStatus (sym h.ended) (inl refl)
+solve_status limits a e (inr h) = subst HasStatus (sym h.ended) (end_status limits.pivots h.walked.journal h.walked.end)
+
+pub solving : (traced : Bool) (limits : Limits) → IsQuestion (IsSolved traced limits) (IsSolveDue limits)
+solving traced limits = record { is_due = solve_is_due traced limits; once = solve_once limits; status = solve_status limits }
 
 -- ---- minimum and copositive
 found_once : (m : Mode) (depth : ℕ) (s : Symmetric) (e f : Ended) → IsFoundDue m depth s e → IsFoundDue m depth s f → e ≡ f
 found_once m depth s e f h k = h.ended ∙ ap search_ending (answer_unique m s.size (entry s) depth h.answer k.answer h.is_answer k.is_answer) ∙ sym k.ended
 
 search_due_once : (m : Mode) (depth : ℕ) (a : RationalMatrix) (e f : Ended) → IsSearchDue m depth a e → IsSearchDue m depth a f → e ≡ f
-search_due_once m depth a e f (inl h) (inl k) = refused_once a e f h k
-search_due_once m depth a e f (inl h) (inr (none, k)) = absurd (clearable_not_refused a e none h)
-search_due_once m depth a e f (inr (none, h)) (inl k) = absurd (clearable_not_refused a f none k)
+search_due_once m depth a e f (inl h) (inl k) = refused_once None a e f h k
+search_due_once m depth a e f (inl h) (inr (none, k)) = absurd (clearable_not_refused None a e none h)
+search_due_once m depth a e f (inr (none, h)) (inl k) = absurd (clearable_not_refused None a f none k)
 search_due_once m depth a e f (inr (none, h)) (inr (none', k)) = found_once m depth (whole_of a) e f h k
 
 answer_status : (answer : SearchAnswer) → HasStatus (search_ending answer)
@@ -83,7 +106,7 @@ search_is_due m depth a e text (inr (none, quotient, h)) = inr (none, h.found)
 pub searching : (m : Mode) (depth : ℕ) → IsQuestion (IsSearched m depth) (IsSearchDue m depth)
 searching m depth = record { is_due = search_is_due m depth; once = search_due_once m depth; status = search_status m depth }
 
-quotient_of : (a : RationalMatrix) (s : Symmetric) (d : ℤ) → cleared_of a ≡ (s, d) → pos 1 ≤ℤ d → IsCleared a s (nat_abs d) → IsQuotient a
+pub quotient_of : (a : RationalMatrix) (s : Symmetric) (d : ℤ) → cleared_of a ≡ (s, d) → pos 1 ≤ℤ d → IsCleared a s (nat_abs d) → IsQuotient a
 quotient_of a s d e positive is = record { positive = subst (λ (p : Symmetric × ℤ). pos 1 ≤ℤ p.1) (sym e) positive; cleared = subst (λ (p : Symmetric × ℤ). IsCleared a p.0 (nat_abs p.1)) (sym e) is }
 
 pub found_follows : (m : Mode) (depth : ℕ) (a : RationalMatrix) (s : Symmetric) (d : ℤ) → answer is_placed_owed (clear_ops a) (cleared_of a) ≡ Ok (s, d) → pos 1 ≤ℤ d → IsCleared a s (nat_abs d) → (e : Ended) (text : List ℕ) → IsFound m depth s d e text → IsSearched m depth a e text

@@ -1,9 +1,9 @@
 -- Answers of `check` alone for words.
-use Rattle.std.specs.Prelude.{◌≡◌, ◌⊎◌, ℕ, List, Option}
+use Rattle.std.specs.Prelude.{◌≡◌, ℕ, List, Option}
 use Rattle.std.proofs.Common.{refl, sym, ap, ◌∙◌, subst, inl, inr}
 use Rattle.certificate_checker.specs.declared.checked.Checked.{Checked}
 use Rattle.certificate_checker.specs.Checks.{IsRefusal}
-use Rattle.cpfactor_lines.specs.Commands.{Request, Check, IsCommandLine, IsUsageAt}
+use Rattle.cpfactor_lines.specs.Commands.{Request, Check, IsCommandLine}
 use Rattle.cpfactor_lines.specs.Sinks.{SinkShown}
 use Rattle.matrix_text.specs.RationalMatrix.{RationalMatrix}
 use Rattle.matrix_text.specs.declared.fault.TextFault.{TextFault}
@@ -11,13 +11,12 @@ use Rattle.cone_tree_certificate.specs.declared.fault.VerdictFault.{VerdictFault
 use Rattle.cpfactor_top.specs.declared.ended.Ended.{Ended}
 use Rattle.cpfactor_top.specs.declared.ended.Cause.{Cause}
 use Rattle.cpfactor_top.specs.declared.ended.Cause.TheVariants.{Fine, Usage, TooLong, MatrixFault, ProofFault, Proof, ReadFault, WriteFault, Memory}
-use Rattle.cpfactor_top.specs.Causes.{ending, cut_off, HasStatus}
+use Rattle.cpfactor_top.specs.Causes.{ending, HasStatus}
 use Rattle.cpfactor_top.specs.Outcomes.{EndsBy, IsOnly}
 use Rattle.cpfactor_lines.specs.Texts.{usage_text}
 use Rattle.cpfactor_top.specs.Files.{FileKind, FileShown, matrix_file, IsFileAnswer}
 use Rattle.cpfactor_top.specs.Checking.{proof_file, IsProofAnswer}
-use Rattle.cpfactor_top.specs.Answers.{answers_of, IsBytesAnswer, IsAnswer, IsOther, IsCheckUsageAt, IsCheckAnswer, IsCheckDue, YieldsTo, YieldsToReading}
-use Rattle.cpfactor_top.proofs.FileLaws.{IsSettled}
+use Rattle.cpfactor_top.specs.Answers.{IsBytesAnswer, IsAnswer, IsOther, IsCheckUsageAt, IsCheckAnswer, IsCheckDue, YieldsTo, YieldsToReading}
 use Rattle.cpfactor_top.proofs.OutcomeLaws.{ends_by_follows, ends_by_only, ends_yield}
 use Rattle.cpfactor_top.proofs.RequestLaws.{request_settled, words_yield, one_request, not_both, one_position}
 

@@ -12,7 +12,7 @@ use Rattle.cpfactor_top.specs.declared.ended.Ended.{Ended}
 use Rattle.cpfactor_top.specs.declared.ended.Cause.TheVariants as cause
 use Rattle.cpfactor_top.specs.declared.ended.Cause.TheVariants.{ReadFault}
 use Rattle.cpfactor_top.specs.Causes.{ending, EndsWith, HasStatus}
-use Rattle.cpfactor_top.specs.Files.{FileKind, FileShown, Encloses, IsRead, IsFileAnswer, IsFileDue}
+use Rattle.cpfactor_top.specs.Files.{FileKind, FileShown, IsRead, IsFileAnswer, IsFileDue}
 
 -- ---- reading
 if_some : (P : List ℕ → Type 0) (o : Option (List ℕ)) (held : List ℕ) → o ≡ Some held → IfSome o P → P held
@@ -47,6 +47,13 @@ never_falls_at_all before after name here others other = elim (cases_Bool (bytes
 
 pub refl_le : (n : ℕ) → n ≤ n
 refl_le n = omega arith
+
+-- what was shown of a file over a stretch of calls that has the other as a part: the file is told alike, and its count of faults
+-- before and after is that of a longer stretch
+pub record Encloses (file part : FileShown) : Type 0 where
+  pub told : part.told ≡ file.told
+  pub before : file.faults_before ≤ part.faults_before
+  pub after : part.faults_after ≤ file.faults_after
 
 -- ---- what was shown of files over a longer stretch, and of other answers of the bytes
 pub file_enclosed : (kind : FileKind) (answers : List ℕ → Ended → List ℕ → Type 0) (file part : FileShown) → Encloses file part → (e : Ended) (text : List ℕ) → IsFileAnswer kind answers part e text → IsFileAnswer kind answers file e text

@@ -1,11 +1,11 @@
 pub mod OutcomeLaws
-pub mod StartTerms
-pub mod StartWeighing
-pub mod StartAnswers
 pub mod AnswerLaws
+pub mod WalkAnswers
+pub mod TreeLines
 pub mod SearchValues
 pub mod FileLaws
 pub mod CheckLaws
 pub mod CheckWords
 pub mod RequestLaws
-pub mod ClearedEntries
+pub mod EasyMatrices
+pub mod Accepting

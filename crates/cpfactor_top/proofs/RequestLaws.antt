@@ -12,19 +12,19 @@ use Rattle.cpfactor_top.specs.declared.ended.Ended.{Ended}
 use Rattle.cpfactor_top.specs.declared.ended.Cause.TheVariants.{Usage, MatrixFault, ReadFault, WriteFault, Memory}
 use Rattle.cpfactor_top.specs.Causes.{ending, EndsWith, HasStatus}
 use Rattle.cpfactor_top.specs.Outcomes.{EndsBy}
-use Rattle.cpfactor_top.specs.Files.{FileShown, Encloses, matrix_file, IsFileAnswer}
+use Rattle.cpfactor_top.specs.Files.{FileShown, matrix_file, IsFileAnswer}
 use Rattle.cpfactor_top.specs.Checking.{proof_file, IsProofAnswer, IsProofDue}
 use Rattle.cpfactor_top.specs.Solving.{IsSolved, IsSolveDue}
 use Rattle.cpfactor_top.specs.Searching.{IsSearched, IsSearchDue}
 use Rattle.cpfactor_top.specs.Answers.{file_of, files_of, answers_of_matrix, due_of_matrix, answers_of, due_of, IsAnswer, IsRequestDue, IsBytesAnswer, IsBytesDue, YieldsTo, YieldsToReading}
 use Rattle.cpfactor_top.proofs.AnswerLaws.{IsQuestion, solving, searching, one_matrix, one_fault, text_or_fault}
-use Rattle.cpfactor_top.proofs.FileLaws.{IsSettled, file_settled, file_enclosed, file_follows}
+use Rattle.cpfactor_top.proofs.FileLaws.{Encloses, IsSettled, file_settled, file_enclosed, file_follows}
 use Rattle.cpfactor_top.proofs.CheckLaws.{proof_settled}
 use Rattle.cpfactor_top.proofs.OutcomeLaws.{ends_yield}
 
 -- a request's own file is among its files
 pub file_among : (r : Request) (name : List ℕ) → All (λ file. name ≢ file) (files_of r) → name ≢ file_of r
-file_among (Solve file) name all = All-head (λ (f : List ℕ). name ≢ f) file [] all
+file_among (Solve file limits traced) name all = All-head (λ (f : List ℕ). name ≢ f) file [] all
 file_among (Check file proof) name all = All-head (λ (f : List ℕ). name ≢ f) file (proof ∷ []) all
 file_among (Minimum file depth) name all = All-head (λ (f : List ℕ). name ≢ f) file [] all
 file_among (Copositive file depth) name all = All-head (λ (f : List ℕ). name ≢ f) file [] all
@@ -56,7 +56,7 @@ module _ (answers : RationalMatrix → Ended → List ℕ → Type 0) (due : Rat
 
 module _ (files : List ℕ → FileShown) (told : List ℕ → Option (List ℕ)) (same : (name : List ℕ) → (files name).told ≡ told name) where
   matrix_settled : (r : Request) (a : RationalMatrix) → IsSettled (answers_of_matrix files r a) (due_of_matrix told r a)
-  matrix_settled (Solve file) a = question_settled IsSolved IsSolveDue solving a
+  matrix_settled (Solve file limits traced) a = question_settled (IsSolved traced limits) (IsSolveDue limits) (solving traced limits) a
   matrix_settled (Check file proof) a = file_settled proof_file (IsProofAnswer a) (IsProofDue a) (proof_settled a) (files proof) (told proof) (same proof)
   matrix_settled (Minimum file depth) a = question_settled (IsSearched Mode.Least depth) (IsSearchDue Mode.Least depth) (searching Mode.Least depth) a
   matrix_settled (Copositive file depth) a = question_settled (IsSearched Mode.Sign depth) (IsSearchDue Mode.Sign depth) (searching Mode.Sign depth) a
@@ -68,7 +68,7 @@ module _ (files : List ℕ → FileShown) (told : List ℕ → Option (List ℕ)
 -- ---- answers over a part of the calls hold over all of them
 module _ (files part : List ℕ → FileShown) (all : (name : List ℕ) → Encloses (files name) (part name)) where
   matrix_enclosed : (r : Request) (a : RationalMatrix) (e : Ended) (text : List ℕ) → answers_of_matrix part r a e text → answers_of_matrix files r a e text
-  matrix_enclosed (Solve file) a e text h = h
+  matrix_enclosed (Solve file limits traced) a e text h = h
   matrix_enclosed (Check file proof) a e text h = file_enclosed proof_file (IsProofAnswer a) (files proof) (part proof) (all proof) e text h
   matrix_enclosed (Minimum file depth) a e text h = h
   matrix_enclosed (Copositive file depth) a e text h = h

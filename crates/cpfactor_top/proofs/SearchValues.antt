@@ -12,7 +12,7 @@ use Rattle.unimodular_cone.specs.Answer.{IsSearchAnswer, SearchAnswer}
 use Rattle.unimodular_cone.proofs.Tree.{fits_in_tree}
 use Rattle.cpfactor_top.specs.declared.ended.Ended.{Ended}
 use Rattle.cpfactor_top.specs.declared.ended.Cause.TheVariants.{Depth, Overflow}
-use Rattle.cpfactor_lines.specs.declared.owed.Owed.TheVariants.{Gram}
+use Rattle.perfect_walk.specs.declared.journal.Owed.TheVariants.{Gram}
 use Rattle.cpfactor_top.specs.Causes.{ending, separated_ending}
 use Rattle.cpfactor_lines.specs.Texts.{owed_text, depth_text, low_text}
 use Rattle.cpfactor_lines.specs.Sinks.{SinkShown}

@@ -20,12 +20,17 @@
 --     IsCutOff given               the ending of a failed sink, or of want of memory
 --     YieldsTo e given             this ending was given, unless the sink failed or memory was wanting
 --     YieldsToReading e given      and, where a file has to be read first, unless that failed
-use Rattle.std.specs.Prelude.{◌≡◌, ◌≢◌, ◌⊎◌, ℕ, List, [], ◌∷◌, Option}
+--     IsEasyRequest words told     the words ask to solve a matrix, told by the files, that lies in the first cone,
+--                                  where nothing is owed
+--     FactorsAtOnce given          a factorization is given whose walk made no step, unless the sink failed or memory
+--                                  was wanting
+use Rattle.std.specs.Prelude.{◌≡◌, ◌≢◌, ◌⊎◌, ◌≤◌, ℕ, Bool, List, [], ◌∷◌, length, Option, Some}
 use Rattle.std.specs.List.{All}
 use Rattle.matrix_text.specs.Matrix.{MatrixText, MatrixFault}
 use Rattle.matrix_text.specs.RationalMatrix.{RationalMatrix}
 use Rattle.matrix_text.specs.declared.fault.TextFault.{TextFault}
 use Rattle.unimodular_cone.specs.declared.Mode.{Mode}
+use Rattle.perfect_walk.specs.declared.journal.Limits.{Limits}
 use Rattle.cpfactor_lines.specs.Commands.{Request, Solve, Check, Minimum, Copositive, IsCommandLine, IsUsageAt}
 use Rattle.cpfactor_top.specs.declared.ended.Ended.{Ended}
 use Rattle.cpfactor_top.specs.declared.ended.Cause.TheVariants.{Usage, MatrixFault as Faulty, ReadFault, WriteFault, Memory}
@@ -33,7 +38,7 @@ use Rattle.cpfactor_top.specs.Causes.{ending, EndsWith}
 use Rattle.cpfactor_top.specs.Outcomes.{Refuses}
 use Rattle.cpfactor_top.specs.Files.{FileShown, matrix_file, IsFileAnswer, IsFileDue}
 use Rattle.cpfactor_top.specs.Checking.{proof_file, IsProofAnswer, IsProofDue}
-use Rattle.cpfactor_top.specs.Solving.{IsSolved, IsSolveDue}
+use Rattle.cpfactor_top.specs.Solving.{IsSolved, IsSolveDue, IsEasy, IsFactoredAtOnce}
 use Rattle.cpfactor_top.specs.Searching.{IsSearched, IsSearchDue}
 
 -- ---- bytes
@@ -49,25 +54,25 @@ IsBytesAnswer answers bytes e text = Refuses (IsFaultDue bytes) e text
 
 -- ---- requests
 abbrev pub files_of : Request → List (List ℕ)
-files_of (Solve file) = file ∷ []
+files_of (Solve file limits traced) = file ∷ []
 files_of (Check file proof) = file ∷ proof ∷ []
 files_of (Minimum file depth) = file ∷ []
 files_of (Copositive file depth) = file ∷ []
 
 abbrev pub file_of : Request → List ℕ
-file_of (Solve file) = file
+file_of (Solve file limits traced) = file
 file_of (Check file proof) = file
 file_of (Minimum file depth) = file
 file_of (Copositive file depth) = file
 
 abbrev pub answers_of_matrix : (List ℕ → FileShown) → Request → RationalMatrix → Ended → List ℕ → Type 0
-answers_of_matrix files (Solve file) = IsSolved
+answers_of_matrix files (Solve file limits traced) = IsSolved traced limits
 answers_of_matrix files (Check file proof) = λ a. IsFileAnswer proof_file (IsProofAnswer a) (files proof)
 answers_of_matrix files (Minimum file depth) = IsSearched Mode.Least depth
 answers_of_matrix files (Copositive file depth) = IsSearched Mode.Sign depth
 
 abbrev pub due_of_matrix : (List ℕ → Option (List ℕ)) → Request → RationalMatrix → Ended → Type 0
-due_of_matrix told (Solve file) = IsSolveDue
+due_of_matrix told (Solve file limits traced) = IsSolveDue limits
 due_of_matrix told (Check file proof) = λ a. IsFileDue proof_file (IsProofDue a) (told proof)
 due_of_matrix told (Minimum file depth) = IsSearchDue Mode.Least depth
 due_of_matrix told (Copositive file depth) = IsSearchDue Mode.Sign depth
@@ -123,3 +128,19 @@ YieldsTo e given = (given ≡ e) ⊎ IsCutOff given
 
 abbrev pub YieldsToReading : Ended → Ended → Type 0
 YieldsToReading e given = EndsWith ReadFault given ⊎ YieldsTo e given
+
+-- ---- a matrix in the first cone
+pub record IsEasyRequest (words : List (List ℕ)) (told : List ℕ → Option (List ℕ)) : Type 0 where
+  pub file : List ℕ
+  pub limits : Limits
+  pub traced : Bool
+  pub asked : IsCommandLine words (Solve file limits traced)
+  pub bytes : List ℕ
+  pub is_told : told file ≡ Some bytes
+  pub within : length bytes ≤ matrix_file.limit
+  pub matrix : RationalMatrix
+  pub text : MatrixText bytes matrix
+  pub easy : IsEasy limits.depth matrix
+
+abbrev pub FactorsAtOnce : Ended → Type 0
+FactorsAtOnce given = IsFactoredAtOnce given ⊎ IsCutOff given

@@ -4,7 +4,6 @@
 --     matrix_file                  that of a matrix
 --     FileShown, file_shown F old new name   what files with the meanings F tell of a name, and its count of faults, before and
 --                                  after a call
---     Encloses file part           the file is told alike, and its count of faults before and after is that of a longer stretch
 --     AreRead kind file bytes      the bytes that were read of a file
 --     IsLong kind file             the file has more bytes than it may
 --     IsRead kind file end bytes   how reading it ended, and with which bytes
@@ -38,12 +37,6 @@ pub record FileShown : Type 0 where
 abbrev pub file_shown : {S : Type 0} → Ghosts S → S → S → List ℕ → FileShown
 file_shown F old new name =
     record { told = F.told old name; faults_before = F.faults old name; faults_after = F.faults new name }
-
--- what was shown of a file over a stretch of calls that has the other as a part
-pub record Encloses (file part : FileShown) : Type 0 where
-  pub told : part.told ≡ file.told
-  pub before : file.faults_before ≤ part.faults_before
-  pub after : part.faults_after ≤ file.faults_after
 
 -- ---- reading
 

@@ -1,11 +1,10 @@
 pub mod Causes
 pub mod Outcomes
-pub mod StartCone
-pub mod StartWeighing
-pub mod StartSolving
 pub mod Given
 pub mod Solving
+pub mod WalkTexts
 pub mod Searching
 pub mod Files
 pub mod Checking
 pub mod Answers
+pub mod Theorems

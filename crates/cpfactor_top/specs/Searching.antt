@@ -10,16 +10,17 @@
 --     IsSearched m depth a e text     it is, with its text
 --
 -- The search looks for the least value where its mode is Least, and for a value below 0 where it is Sign.
-use Rattle.std.specs.Prelude.{◌≡◌, ◌⊎◌, ℕ, ℤ, List}
+use Rattle.std.specs.Prelude.{◌≡◌, ◌⊎◌, ℕ, ℤ, List, None}
 use Rattle.symmetric_matrix.specs.Symmetric.{Symmetric, entry}
 use Rattle.matrix_text.specs.RationalMatrix.{RationalMatrix}
 use Rattle.unimodular_cone.specs.declared.Mode.{Mode}
 use Rattle.unimodular_cone.specs.Answer.{IsMinimum, IsCopositive, IsLowVector, SearchAnswer, BoundWide, Wide, Low, Depth, Copositive, Found, IsSearchAnswer}
 use Rattle.cpfactor_top.specs.declared.ended.Ended.{Ended}
 use Rattle.cpfactor_top.specs.declared.ended.Cause.TheVariants as cause
-use Rattle.cpfactor_lines.specs.declared.owed.Owed.TheVariants.{Gram, Bound}
+use Rattle.perfect_walk.specs.declared.journal.Owed.TheVariants.{Gram, Bound}
 use Rattle.cpfactor_top.specs.Causes.{ending, separated_ending}
-use Rattle.cpfactor_top.specs.Given.{whole_of, denominator_of, IsClearable, IsQuotient, IsClearRefused}
+use Rattle.matrix_text.specs.Quotients.{whole_of, denominator_of, IsClearable, IsQuotient}
+use Rattle.cpfactor_top.specs.Given.{IsClearRefused}
 use Rattle.cpfactor_top.specs.Outcomes.{Refuses}
 use Rattle.cpfactor_lines.specs.Texts.{owed_text, depth_text, low_text, copositive_text, minimum_text}
 
@@ -58,8 +59,8 @@ pub record IsFound (m : Mode) (depth : ℕ) (s : Symmetric) (d : ℤ) (e : Ended
   pub written : text ≡ search_text s.size d found.answer
 
 abbrev pub IsSearchDue : Mode → ℕ → RationalMatrix → Ended → Type 0
-IsSearchDue m depth a e = IsClearRefused a e ⊎ (IsClearable a × IsFoundDue m depth (whole_of a) e)
+IsSearchDue m depth a e = IsClearRefused None a e ⊎ (IsClearable a × IsFoundDue m depth (whole_of a) e)
 
 abbrev pub IsSearched : Mode → ℕ → RationalMatrix → Ended → List ℕ → Type 0
-IsSearched m depth a e text = Refuses (IsClearRefused a) e text
+IsSearched m depth a e text = Refuses (IsClearRefused None a) e text
     ⊎ (IsClearable a × IsQuotient a × IsFound m depth (whole_of a) (denominator_of a) e text)

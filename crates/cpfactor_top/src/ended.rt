@@ -1,13 +1,13 @@
-//! How a command ends: its status and its cause.
+//! How a command ends: its status, its cause, and what a walk did.
 
 ghost use Rattle.std.specs.Prelude.{◌≡◌};
-ghost use Rattle.cpfactor_top.specs.Causes.{status_number, proof_status, status_of, ending, cut_off, ended_after};
+ghost use Rattle.cpfactor_top.specs.Causes.{status_number, proof_status, status_of, ending, ending_with, cut_off, ended_after};
 
 use certificate_checker::Checked;
 use cone_tree_certificate::VerdictFault;
 use cp_outside::PutEnd;
-use cpfactor_lines::Owed;
 use matrix_text::TextFault;
+use perfect_walk::{Journal, Owed};
 use unimodular_cone::Path;
 
 /// The kind of an ending, which the program's exit status shows.
@@ -25,16 +25,16 @@ pub enum Status {
     Text,
     /// The search came to its depth.
     Depth,
+    /// The walk came to its limit of steps.
+    Pivots,
+    /// An operation's result doesn't fit.
+    Overflow,
     /// A file could not be read.
     Read,
     /// The sink failed.
     Write,
     /// Memory was wanting.
     Memory,
-    /// An operation's result doesn't fit.
-    Overflow,
-    /// The input is good, and what it needs isn't built yet.
-    NotYet,
 }
 
 impl Status {
@@ -49,24 +49,17 @@ impl Status {
             Status::Usage => 2,
             Status::Text => 3,
             Status::Depth => 4,
+            Status::Pivots => 5,
             Status::Overflow => 6,
             Status::Read => 7,
             Status::Write => 8,
             Status::Memory => 9,
-            Status::NotYet => 12,
         }
     }
 }
 
-/// What isn't built yet.
-#[derive(Clone, Copy, Debug, PartialEq, Eq)]
-pub enum Lacking {
-    /// The matrix lies outside the start cone.
-    Outside,
-}
-
 /// Why a command ended as it did.
-#[derive(Clone, Copy, Debug, PartialEq, Eq)]
+#[derive(Drop)]
 pub enum Cause {
     /// The verdict was written, or the value that is too low.
     Fine,
@@ -83,10 +76,10 @@ pub enum Cause {
     Proof(Checked),
     /// The search leaves the cone of this path open: its first open path, which has as many digits as the depth allows.
     Depth { path: Path },
+    /// The walk made as many steps as its limit, which this is, and another one is due.
+    Pivots { used: u32 },
     /// This doesn't fit.
     Overflow(Owed),
-    /// The input needs what isn't built yet.
-    NotYet { what: Lacking },
     /// Reading a file that the words name failed.
     ReadFault,
     /// The sink failed.
@@ -115,8 +108,8 @@ fn status_of(cause: &Cause) -> Status
         Cause::TooLong | Cause::MatrixFault(_) | Cause::ProofFault(_) => Status::Text,
         Cause::Proof(checked) => proof_status(checked),
         Cause::Depth { .. } => Status::Depth,
+        Cause::Pivots { .. } => Status::Pivots,
         Cause::Overflow(_) => Status::Overflow,
-        Cause::NotYet { .. } => Status::NotYet,
         Cause::ReadFault => Status::Read,
         Cause::WriteFault => Status::Write,
         Cause::Memory => Status::Memory,
@@ -124,12 +117,14 @@ fn status_of(cause: &Cause) -> Status
 }
 
 /// How a command ended.
-#[derive(Debug, Drop)]
+#[derive(Drop)]
 pub struct Ended {
     /// The kind of the ending.
     pub status: Status,
     /// Why it ended so.
     pub cause: Cause,
+    /// What the walk of `solve` did, from where the matrix was read. After want of memory it may be missing.
+    pub journal: Option<Journal>,
 }
 
 impl Ended {
@@ -137,9 +132,17 @@ impl Ended {
     pub fn by(cause: Cause) -> Ended
         ensures { result ≡ ending cause }
     {
+        Ended::with(None, cause)
+    }
+
+    /// The ending with this journal and this cause. `Fine` comes with the status `Done`.
+    pub fn with(journal: Option<Journal>, cause: Cause) -> Ended
+        ensures { result ≡ ending_with journal cause }
+    {
         Ended {
             status: status_of(&cause),
             cause,
+            journal,
         }
     }
 
@@ -147,7 +150,7 @@ impl Ended {
     fn cut_off(self, cause: Cause) -> Ended
         ensures { result ≡ cut_off cause self }
     {
-        Ended::by(cause)
+        Ended::with(self.journal, cause)
     }
 
     /// This ending, after its text was put up to this end.

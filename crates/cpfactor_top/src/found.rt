@@ -52,6 +52,7 @@ pub fn put_low<K: Sink>(
     let ended = Ended {
         status: Status::Separated,
         cause: Cause::Fine,
+        journal: None,
     };
     answer_line(sink, ended, low_line(alloc, vector, value, d, &path))
 }

@@ -6,23 +6,24 @@ mod checking;
 mod checking_tests;
 mod ended;
 mod exit;
-mod factorization;
 mod found;
 mod given;
+mod law;
 mod program;
 mod refusal;
 mod searching;
 mod solving;
-mod start_solving;
-mod start_terms;
-mod start_weight;
+#[cfg(test)]
+mod solving_tests;
 #[cfg(test)]
 mod tests;
+mod walk_answer;
 
-pub use cpfactor_lines::{Command, Owed, Usage, read_words, words_are_read_one_way};
-pub use ended::{Cause, Ended, Lacking, Status};
+pub use cpfactor_lines::{Command, Usage, read_words, words_are_read_one_way};
+pub use ended::{Cause, Ended, Status};
 pub use exit::{exit_number, exit_status};
+pub use law::check_accepts_what_solve_wrote;
+pub use perfect_walk::{Journal, Limits, Owed, Step, Visit};
 pub use program::{check_run, run};
 pub use searching::minimum_alone;
 pub use solving::solve_alone;
-pub use start_weight::{StartFail, WideWeight, start_weights};

@@ -1,6 +1,6 @@
 //! The whole program, over the world outside.
 
-ghost use Rattle.std.specs.Prelude.{◌≡◌, ◌≢◌, ◌≤◌, ℕ, List, length};
+ghost use Rattle.std.specs.Prelude.{◌≡◌, ◌≢◌, ◌≤◌, ◌⊎◌, ℕ, List, length};
 ghost use Rattle.certificate_checker.specs.declared.checked.Checked.{Checked as a_check};
 ghost use Rattle.certificate_checker.specs.Checks.{IsRefusal};
 ghost use Rattle.std.specs.List.{All};
@@ -10,11 +10,11 @@ ghost use Rattle.cpfactor_lines.specs.Commands.{HasRanges, IsUsageAt};
 ghost use Rattle.cpfactor_lines.specs.Requests.{texts, request_of};
 ghost use Rattle.cpfactor_lines.specs.Sinks.{sink_shown};
 ghost use Rattle.cpfactor_top.specs.declared.ended.Ended.{Ended as an_ending};
-ghost use Rattle.cpfactor_top.specs.declared.ended.Cause.TheVariants.{Usage as usage, Proof, WriteFault};
-ghost use Rattle.cpfactor_top.specs.Causes.{HasStatus, IsUndisturbed, ending};
+ghost use Rattle.cpfactor_top.specs.declared.ended.Cause.TheVariants.{Usage as usage, Proof, ReadFault, WriteFault};
+ghost use Rattle.cpfactor_top.specs.Causes.{EndsWith, HasStatus, IsUndisturbed, ending};
 ghost use Rattle.cpfactor_top.specs.Outcomes.{EndsBy};
 ghost use Rattle.cpfactor_top.specs.Files.{FileShown, file_shown, matrix_file, IsRead, IsFileAnswer};
-ghost use Rattle.cpfactor_top.specs.Answers.{files_of, file_of, answers_of_matrix, answers_of, IsBytesAnswer, IsAnswer, IsRequestDue, IsCheckUsageAt, IsCheckAnswer, IsCheckDue, IsUnnamed, YieldsTo, YieldsToReading};
+ghost use Rattle.cpfactor_top.specs.Answers.{files_of, file_of, answers_of_matrix, answers_of, IsBytesAnswer, IsAnswer, IsRequestDue, IsCheckUsageAt, IsCheckAnswer, IsCheckDue, IsUnnamed, YieldsTo, YieldsToReading, IsEasyRequest, FactorsAtOnce};
 
 use crate::checking::check_bytes;
 use crate::ended::{Cause, Ended};
@@ -45,6 +45,9 @@ pub fn run<F: Files, K: Sink>(alloc: Global, words: &[String], files: &mut F, si
     ensures usage { (position : ℕ) → IsUsageAt (texts words.now) position → YieldsTo (ending (usage position)) result }
     // Each ending comes where it is due.
     ensures due { (e : an_ending) → IsRequestDue (texts words.now) (F.told files.old) e → YieldsToReading e result }
+    // A matrix in the first cone is factored without a step, where nothing is owed.
+    ensures first_cone { IsEasyRequest (texts words.now) (F.told files.old)
+        → EndsWith ReadFault result ⊎ FactorsAtOnce result }
     // What the files tell stays, and so do the counts of the files that the words don't name.
     ensures told_stays { (name : List ℕ) → F.told files.new name ≡ F.told files.old name }
     ensures others_stay { (name : List ℕ) → IsUnnamed (texts words.now) name
@@ -143,7 +146,7 @@ fn file_named(command: Command<'_>) -> &str
     ensures { result.now ≡ file_of (request_of command.entry) }
 {
     match command {
-        Command::Solve { file } => file,
+        Command::Solve { file, .. } => file,
         Command::Check { file, .. } => file,
         Command::Minimum { file, .. } => file,
         Command::Copositive { file, .. } => file,
@@ -219,7 +222,7 @@ fn answer_bytes<F: Files, K: Sink>(
 {
     match command {
         Command::Check { proof, .. } => check_bytes(alloc, bytes, proof, files, sink),
-        Command::Solve { .. } => solve_alone(alloc, bytes, sink),
+        Command::Solve { limits, trace, .. } => solve_alone(alloc, bytes, limits, trace, sink),
         Command::Minimum { depth, .. } => minimum_alone(alloc, bytes, Mode::Least, depth, sink),
         Command::Copositive { depth, .. } => minimum_alone(alloc, bytes, Mode::Sign, depth, sink),
     }

@@ -2,14 +2,16 @@
 
 ghost use Rattle.std.specs.Prelude.{◌≡◌, ℕ, List, IfOk};
 ghost use Rattle.cpfactor_lines.specs.Sinks.{sink_shown};
-ghost use Rattle.cpfactor_top.specs.Causes.{ending, refusal_text};
+ghost use Rattle.cpfactor_top.specs.Causes.{ending, ending_with, refusal_text};
 ghost use Rattle.cpfactor_top.specs.Outcomes.{EndsBy, IsOnly, IsNone};
 
-use crate::ended::{Cause, Ended, Lacking};
+use crate::ended::{Cause, Ended};
 use cp_outside::Sink;
 use cpfactor_lines::{
-    Word, checked_line, depth_line, fault_line, owed_line, proof_fault_line, usage_line, words_line,
+    Word, checked_line, depth_line, fault_line, owed_line, pivots_line, proof_fault_line,
+    usage_line, words_line,
 };
+use perfect_walk::Journal;
 use std::alloc::{AllocError, Global};
 
 /// Writes that memory was wanting, where nothing has been written yet.
@@ -35,12 +37,25 @@ pub fn answer_line<K: Sink>(sink: &mut K, ended: Ended, line: Result<Vec<u8>, Al
 pub fn refuse<K: Sink>(alloc: Global, sink: &mut K, cause: Cause) -> Ended
     ensures { EndsBy (IsOnly (ending cause) (refusal_text cause)) (sink_shown K.Sink sink.old sink.new) result }
 {
+    refuse_with(alloc, sink, None, cause)
+}
+
+/// Writes the refusal by a cause, which ends a command with this journal.
+pub fn refuse_with<K: Sink>(
+    alloc: Global,
+    sink: &mut K,
+    journal: Option<Journal>,
+    cause: Cause,
+) -> Ended
+    ensures { EndsBy (IsOnly (ending_with journal cause) (refusal_text cause))
+        (sink_shown K.Sink sink.old sink.new) result }
+{
     let line = refusal_line(alloc, &cause);
-    answer_line(sink, Ended::by(cause), line)
+    answer_line(sink, Ended::with(journal, cause), line)
 }
 
 /// The line of the refusal by a cause. It is refused for want of memory alone.
-fn refusal_line(alloc: Global, cause: &Cause) -> Result<Vec<u8>, AllocError>
+pub fn refusal_line(alloc: Global, cause: &Cause) -> Result<Vec<u8>, AllocError>
     ensures { IfOk result (λ line. line.items ≡ refusal_text cause.now) }
 {
     match cause {
@@ -57,17 +72,8 @@ fn refusal_line(alloc: Global, cause: &Cause) -> Result<Vec<u8>, AllocError>
         Cause::ProofFault(fault) => proof_fault_line(alloc, fault),
         Cause::Proof(checked) => checked_line(alloc, checked),
         Cause::Depth { path } => depth_line(alloc, path),
+        Cause::Pivots { used } => pivots_line(alloc, *used),
         Cause::Overflow(owed) => owed_line(alloc, owed),
-        Cause::NotYet {
-            what: Lacking::Outside,
-        } => words_line(
-            alloc,
-            &[
-                Word::Text(b"refused"),
-                Word::Text(b"not-yet"),
-                Word::Text(b"outside"),
-            ],
-        ),
         Cause::ReadFault => words_line(alloc, &[Word::Text(b"refused"), Word::Text(b"read")]),
         Cause::Memory => words_line(alloc, &[Word::Text(b"refused"), Word::Text(b"memory")]),
         Cause::Fine | Cause::WriteFault => Ok(Vec::new(alloc)),

@@ -14,8 +14,8 @@ use crate::found::{put_copositive, put_low, put_minimum};
 use crate::given::{clear_or_refuse, read_or_refuse};
 use crate::refusal::{refuse, want_memory};
 use cp_outside::Sink;
-use cpfactor_lines::Owed;
 use matrix_text::RatMatrix;
+use perfect_walk::Owed;
 use search_core::{Least, Searcher, Sign};
 use serial_search::SerialSearcher;
 use std::alloc::Global;
@@ -74,7 +74,7 @@ fn search_matrix<K: Sink>(
     requires { depth ≤ 200 }
     ensures { EndsBy (IsSearched mode depth a.now) (sink_shown K.Sink sink.old sink.new) result }
 {
-    match clear_or_refuse(alloc, a, sink) {
+    match clear_or_refuse(alloc, a, None, sink) {
         Ok((s, d)) => search_whole(alloc, &s, d, mode, depth, sink),
         Err(ended) => ended,
     }

@@ -1,57 +1,124 @@
 //! The command `solve`.
 
-ghost use Rattle.std.specs.Prelude.{◌≤◌, length};
+ghost use Rattle.std.specs.Prelude.{◌≡◌, ◌≤◌, ◌≤ℤ◌, pos, nat_abs, length, Ok};
+ghost use Rattle.symmetric_matrix.specs.Owed.{answer};
+ghost use Rattle.matrix_text.specs.Matrix.{MatrixText};
+ghost use Rattle.matrix_text.specs.RationalMatrix.{RationalMatrix};
+ghost use Rattle.matrix_text.specs.Clearing.{is_placed_owed, clear_ops, cleared_of, IsCleared};
 ghost use Rattle.cpfactor_top.specs.declared.ended.Ended.{Ended as an_ending};
 ghost use Rattle.cpfactor_lines.specs.Sinks.{sink_shown};
 ghost use Rattle.cpfactor_top.specs.Outcomes.{EndsBy};
 ghost use Rattle.cpfactor_top.specs.Causes.{HasStatus};
-ghost use Rattle.cpfactor_top.specs.Solving.{IsSolved, IsSolveDue};
+ghost use Rattle.cpfactor_top.specs.Solving.{no_visit, IsSolved, IsSolveDue, IsWalkAnswer, IsEasy};
 ghost use Rattle.cpfactor_top.specs.Files.{matrix_file};
-ghost use Rattle.cpfactor_top.specs.Answers.{IsBytesAnswer, IsBytesDue, YieldsTo};
+ghost use Rattle.cpfactor_top.specs.Answers.{IsBytesAnswer, IsBytesDue, YieldsTo, FactorsAtOnce};
 
 use crate::ended::Ended;
 use crate::given::{clear_or_refuse, read_or_refuse};
-use crate::start_solving::solve_cleared;
+use crate::walk_answer::put_walk;
 use cp_outside::Sink;
 use matrix_text::RatMatrix;
+use perfect_walk::{Journal, Limits, Steps, Visits, walk};
+use serial_search::SerialSearcher;
 use std::alloc::Global;
+use symmetric_matrix::SymInt;
 
-/// The whole of `solve` after reading: factors the matrix whose text the bytes are, at most 1,048,576 of them, and writes the
-/// answer to the sink.
+/// The whole of `solve` after reading, with one worker: factors or separates the matrix whose text the bytes are, at most
+/// 1,048,576 of them, by a walk of at most `limits.pivots` steps with searches to `limits.depth`, at most 200, and writes the
+/// answer to the sink, behind the trace of the walk's visits where `trace` is given.
 ///
-/// It ends with `MatrixFault` where the bytes have that first fault, with `Overflow` where that operation is the first of
-/// clearing, or of the weights, whose result doesn't fit, with `NotYet Outside` where the matrix lies outside the start cone,
-/// with `Fine` where it lies in the start cone, with `WriteFault` only where the sink failed, and with `Memory` where memory
-/// was wanting. It always returns.
-pub fn solve_alone<K: Sink>(alloc: Global, bytes: &[u8], sink: &mut K) -> Ended
-    requires { length bytes.now ≤ matrix_file.limit }
+/// The matrix A is S/d, d its least common denominator. It ends with `Fine` where the walk factors A, and, with the status
+/// `Separated`, where it separates A; with `Depth`, `Pivots` or `Overflow` where the walk of S/d ends so, or where that
+/// operation is the first of clearing whose result doesn't fit; with `MatrixFault` where the bytes have that first fault;
+/// with `WriteFault` only where the sink failed; and with `Memory` where memory was wanting. The journal is that of the walk,
+/// and has no visit where clearing was refused. It always returns.
+pub fn solve_alone<K: Sink>(
+    alloc: Global,
+    bytes: &[u8],
+    limits: Limits,
+    trace: bool,
+    sink: &mut K,
+) -> Ended
+    requires bytes { length bytes.now ≤ matrix_file.limit }
+    requires depth { limits.depth ≤ 200 }
     ensures status { HasStatus result }
     // The ending is that of an answer, whose text is written; or the sink failed or memory was wanting, and a front of that
     // text is, or of the line `refused memory`.
-    ensures ended { EndsBy (IsBytesAnswer IsSolved bytes.now) (sink_shown K.Sink sink.old sink.new) result }
+    ensures ended { EndsBy (IsBytesAnswer (IsSolved trace limits) bytes.now)
+        (sink_shown K.Sink sink.old sink.new) result }
     // Each ending comes where it is due.
-    ensures due { (e : an_ending) → IsBytesDue IsSolveDue bytes.now e → YieldsTo e result }
+    ensures due { (e : an_ending) → IsBytesDue (IsSolveDue limits) bytes.now e → YieldsTo e result }
+    // A matrix in the first cone is factored without a step, where nothing is owed.
+    ensures first_cone { (a : RationalMatrix) → MatrixText bytes.now a → IsEasy limits.depth a
+        → FactorsAtOnce result }
 {
-    solve_bytes(alloc, bytes, sink)
+    solve_bytes(alloc, bytes, limits, trace, sink)
 }
 
-/// Reads a matrix text and factors its matrix.
-fn solve_bytes<K: Sink>(alloc: Global, bytes: &[u8], sink: &mut K) -> Ended
-    requires { length bytes.now ≤ matrix_file.limit }
-    ensures { EndsBy (IsBytesAnswer IsSolved bytes.now) (sink_shown K.Sink sink.old sink.new) result }
+/// Reads a matrix text and solves its matrix.
+fn solve_bytes<K: Sink>(
+    alloc: Global,
+    bytes: &[u8],
+    limits: Limits,
+    trace: bool,
+    sink: &mut K,
+) -> Ended
+    requires bytes { length bytes.now ≤ matrix_file.limit }
+    requires depth { limits.depth ≤ 200 }
+    ensures { EndsBy (IsBytesAnswer (IsSolved trace limits) bytes.now) (sink_shown K.Sink sink.old sink.new) result }
 {
     match read_or_refuse(alloc, bytes, sink) {
-        Ok(a) => solve_matrix(alloc, &a, sink),
+        Ok(a) => solve_matrix(alloc, &a, limits, trace, sink),
         Err(ended) => ended,
     }
 }
 
-/// Factors a matrix over the start vectors.
-fn solve_matrix<K: Sink>(alloc: Global, a: &RatMatrix, sink: &mut K) -> Ended
-    ensures { EndsBy (IsSolved a.now) (sink_shown K.Sink sink.old sink.new) result }
+/// The journal of a walk that didn't begin. It takes no memory.
+fn no_visit(alloc: Global) -> Journal
+    ensures { result ≡ no_visit }
 {
-    match clear_or_refuse(alloc, a, sink) {
-        Ok((s, d)) => solve_cleared(alloc, a, &s, d, sink),
+    Journal {
+        visited: Visits::new(alloc),
+        steps: Steps::new(alloc),
+        searched: None,
+    }
+}
+
+/// Clears a matrix of its denominators and solves it.
+fn solve_matrix<K: Sink>(
+    alloc: Global,
+    a: &RatMatrix,
+    limits: Limits,
+    trace: bool,
+    sink: &mut K,
+) -> Ended
+    requires depth { limits.depth ≤ 200 }
+    requires few { a.now.size ≤ 6 }
+    ensures { EndsBy (IsSolved trace limits a.now) (sink_shown K.Sink sink.old sink.new) result }
+{
+    match clear_or_refuse(alloc, a, Some(no_visit(alloc)), sink) {
+        Ok((s, d)) => solve_cleared(alloc, a, &s, d, limits, trace, sink),
         Err(ended) => ended,
     }
+}
+
+/// Solves a matrix A = S/d by a walk.
+fn solve_cleared<K: Sink>(
+    alloc: Global,
+    a: &RatMatrix,
+    s: &SymInt,
+    d: i128,
+    limits: Limits,
+    trace: bool,
+    sink: &mut K,
+) -> Ended
+    requires depth { limits.depth ≤ 200 }
+    requires few { a.now.size ≤ 6 }
+    requires clearable { answer is_placed_owed (clear_ops a.now) (cleared_of a.now) ≡ Ok (s.now, d) }
+    requires cleared { IsCleared a.now s.now (nat_abs d) }
+    requires positive { pos 1 ≤ℤ d }
+    ensures { EndsBy (IsWalkAnswer trace limits a.now) (sink_shown K.Sink sink.old sink.new) result }
+{
+    let walked = walk(alloc, &mut SerialSearcher::new(alloc), s, d, limits);
+    put_walk(alloc, a, walked, limits, trace, sink)
 }

@@ -2,7 +2,7 @@
 
 ghost use Rattle.std.specs.Prelude.{None};
 
-use crate::{minimum_alone, run, solve_alone};
+use crate::{minimum_alone, run};
 use cp_outside::{Files, MemFiles, MemSink, ReadEnd};
 use std::alloc::{AllocError, Global};
 use std::test::Fail;
@@ -18,7 +18,7 @@ pub fn words_of(alloc: Global, line: &str) -> Result<Vec<String>, AllocError> {
 }
 
 /// The exit status of a command line where the file `a` has these bytes.
-fn status_after(
+pub fn status_after(
     alloc: Global,
     line: &str,
     bytes: &[u8],
@@ -30,40 +30,8 @@ fn status_after(
     Ok(run(alloc, &words, &mut files, sink).status.number())
 }
 
+/// A matrix in the start cone.
 const TWO_BY_TWO: &str = "cpmatrix 1 2\n2 1\n1 2\n";
-
-#[test]
-fn matrices_are_factored_or_named(rt: HostRuntime) -> Result<(), Fail> {
-    let cases = [
-        ("cpmatrix 1 1\n0\n", 0, "factored 1 0\n"),
-        ("cpmatrix 1 1\n5/3\n", 0, "factored 1 1\n5/3 1\n"),
-        (
-            "cpmatrix 1 1\n9223372036854775807\n",
-            0,
-            "factored 1 1\n9223372036854775807/1 1\n",
-        ),
-        (TWO_BY_TWO, 0, "factored 2 3\n1/1 0 1\n1/1 1 0\n1/1 1 1\n"),
-        (
-            "# a comment\n\ncpmatrix 1 2\r\n\t2  1\n1 4/2",
-            0,
-            "factored 2 3\n1/1 0 1\n1/1 1 0\n1/1 1 1\n",
-        ),
-        (
-            "cpmatrix 1 3\n3/2 1 1/2\n1 2 1\n1/2 1 3/2\n",
-            0,
-            "factored 3 6\n1/2 0 0 1\n1/2 0 1 0\n1/2 0 1 1\n1/2 1 0 0\n1/2 1 1 0\n1/2 1 1 1\n",
-        ),
-        ("cpmatrix 1 2\n6 3\n3 2\n", 12, "refused not-yet outside\n"),
-        ("cpmatrix 1 1\n-1\n", 12, "refused not-yet outside\n"),
-    ];
-    for (text, status, expected) in cases {
-        let mut sink = MemSink::with_room(rt.alloc(), 200)?;
-        let ended = status_after(rt.alloc(), "solve a", text.as_bytes(), &mut sink)?;
-        assert_eq!(rt; ended, status, "at {text}");
-        assert_eq!(rt; sink.bytes(), expected.as_bytes(), "at {text}");
-    }
-    Ok(())
-}
 
 const DEEP: &str = "cpmatrix 1 3\n10 -6 -7\n-6 4 5\n-7 5 20\n";
 
@@ -178,33 +146,16 @@ fn faulty_texts_are_refused_with_their_first_fault(rt: HostRuntime) -> Result<()
 }
 
 #[test]
-fn operations_that_do_not_fit_are_named(rt: HostRuntime) -> Result<(), Fail> {
-    let cases = [
-        (
-            "cpmatrix 1 2\n1/9223372036854775807 1/9223372036854775806\n1/9223372036854775806 1/9223372036854775805\n",
-            "refused overflow Clear Mul 85070591730234615838173535747377725442 9223372036854775805\n",
-        ),
-        (
-            "cpmatrix 1 3\n1/9223372036854775807 -9223372036854775807 0\n-9223372036854775807 9223372036854775807 -9223372036854775807\n0 -9223372036854775807 9223372036854775807\n",
-            "refused overflow Start Add 170141183460469231694793815568465002498 85070591730234615847396907784232501249\n",
-        ),
-    ];
-    for (text, expected) in cases {
-        let mut sink = MemSink::with_room(rt.alloc(), 200)?;
-        let status = status_after(rt.alloc(), "solve a", text.as_bytes(), &mut sink)?;
-        assert_eq!(rt; status, 6, "at {text}");
-        assert_eq!(rt; sink.bytes(), expected.as_bytes(), "at {text}");
-    }
-    Ok(())
-}
-
-#[test]
 fn faulty_words_are_refused_at_their_position(rt: HostRuntime) -> Result<(), Fail> {
     let cases = [
         ("", "refused usage 1\n"),
         ("minimum a --depth 201", "refused usage 4\n"),
         ("solve", "refused usage 2\n"),
         ("solve a b", "refused usage 3\n"),
+        ("solve a --depth 201", "refused usage 4\n"),
+        ("solve a --pivots 01", "refused usage 4\n"),
+        ("solve a --pivots 100001", "refused usage 4\n"),
+        ("solve a --trace --trace", "refused usage 4\n"),
     ];
     for (line, expected) in cases {
         let mut sink = MemSink::with_room(rt.alloc(), 200)?;
@@ -231,16 +182,6 @@ fn an_unknown_file_is_a_read_fault(rt: HostRuntime) -> Result<(), Fail> {
     let status = status_after(rt.alloc(), "solve b", TWO_BY_TWO.as_bytes(), &mut sink)?;
     assert_eq!(rt; status, 7);
     assert_eq!(rt; sink.bytes(), b"refused read\n".as_slice());
-    Ok(())
-}
-
-#[test]
-fn a_failed_put_leaves_a_front_of_the_text(rt: HostRuntime) -> Result<(), Fail> {
-    let mut sink = MemSink::with_room(rt.alloc(), 200)?;
-    sink.fail_at(2, 3)?;
-    let ended = solve_alone(rt.alloc(), TWO_BY_TWO.as_bytes(), &mut sink);
-    assert_eq!(rt; ended.status.number(), 8);
-    assert_eq!(rt; sink.bytes(), b"factored 2 3\n1/1".as_slice());
     Ok(())
 }
 

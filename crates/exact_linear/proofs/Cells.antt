@@ -47,13 +47,13 @@ divided_at p [] n l = absurd (omega arith)
 divided_at p (x ∷ xs) zero l = refl
 divided_at p (x ∷ xs) (suc n) l = divided_at p xs n (omega arith)
 
-row_length : (w r rows : ℕ) (old : List Rational) → length old ≡ rows * w → r < rows → length (table_row w old r) ≡ w
+pub row_length : (w r rows : ℕ) (old : List Rational) → length old ≡ rows * w → r < rows → length (table_row w old r) ≡ w
 row_length w r rows old e l =
     let p : r * w + w ≤ rows * w = below_row r rows w l in
     let d : length (drop (r * w) old) ≡ length old - r * w = length-drop (r * w) old in
     length-take-le ((r * w + w) - r * w) (drop (r * w) old) (omega arith) ∙ (let q : (r * w + w) - r * w ≡ w = omega arith in q)
 
-row_at : (w r b : ℕ) (old : List Rational) → b < w → entry_of (table_row w old r) b ≡ entry_of old (r * w + b)
+pub row_at : (w r b : ℕ) (old : List Rational) → b < w → entry_of (table_row w old r) b ≡ entry_of old (r * w + b)
 row_at w r b old l =
     get_or-take ((r * w + w) - r * w) (drop (r * w) old) b (whole (pos 0)) (omega arith) ∙ get_or-drop (r * w) old b (whole (pos 0))
 

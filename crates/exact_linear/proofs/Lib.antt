@@ -1,7 +1,11 @@
+pub mod CommonDenominators
 pub mod Entries
 pub mod Zero
 pub mod Rows
 pub mod Cells
+pub mod NothingOwed
+pub mod WholeEntries
+pub mod KeptEntries
 pub mod Fill
 pub mod Results
 pub mod Places

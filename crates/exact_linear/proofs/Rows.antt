@@ -9,11 +9,11 @@ use Rattle.exact_linear.specs.declared.entry.EntryOp.{EntryOp}
 use Rattle.exact_linear.specs.Tables.{entry_of}
 use Rattle.exact_linear.specs.Exchange.{entry_is_owed, divide_entry, clear_entry, divide_ops, divided_row, cell_ops, new_cell, rest_ops, rest_cells, next_row, next_column, table_row, pivot_row, table_ops, table_cells}
 
-at_drop : (xs : List Rational) (j : ℕ) (x : Rational) → j < length xs → x ≡ get_or xs j x → drop j xs ≡ x ∷ drop (j + 1) xs
+pub at_drop : (xs : List Rational) (j : ℕ) (x : Rational) → j < length xs → x ≡ get_or xs j x → drop j xs ≡ x ∷ drop (j + 1) xs
 at_drop xs j x l e = drop-cons xs j x l ∙ ap₂ (λ (y : Rational) (n : ℕ). y ∷ drop n xs) (sym e) (let n : suc j ≡ j + 1 = omega arith in n)
 
 -- the row so far, and what is left of it
-joined : (into : List Rational) (j : ℕ) (z : Rational) (rest : List Rational) → j < length into → take j into ++ z ∷ rest ≡ take (j + 1) (set into j z) ++ rest
+pub joined : (into : List Rational) (j : ℕ) (z : Rational) (rest : List Rational) → j < length into → take j into ++ z ∷ rest ≡ take (j + 1) (set into j z) ++ rest
 joined into j z rest l = sym (append_assoc (take j into) (z ∷ []) rest) ∙ ap (λ (t : List Rational). t ++ rest) (sym (take_more_set into j z l))
 
 pub divide_refused : (i j : ℕ) (p x : Rational) (xs : List Rational) (err : EntryOp) → j < length xs → x ≡ get_or xs j x → answer entry_is_owed (divide_entry i j x p) ((x /ℚ p)) ≡ Err err
@@ -82,6 +82,13 @@ unfolding rest_cells
 rest_made r c w i j k new old into x f y z l s e ef ey h =
     let v : new_cell r i x f y ≡ z = (answer-append_ok entry_is_owed (cell_ops r i j x f y) [] (new_cell r i x f y) z (tt {0}) h).1 in
     let u : new_cell r i x (entry_of old (i * w + c)) (entry_of new j) ≡ z = ap₂ (λ (f : Rational) (y : Rational). new_cell r i x f y) (sym ef) (sym ey) ∙ v in
+    rw (at_drop old k x l e, u) (joined into k z (rest_cells r c w new old (drop (k + 1) old) (next_row w i j) (next_column w i j)) (omega arith))
+
+-- an entry is written
+pub rest_written : (r c w i j k : ℕ) (new old into : List Rational) (x z : Rational) → k < length old → length into ≡ length old → x ≡ get_or old k x → new_cell r i x (entry_of old (i * w + c)) (entry_of new j) ≡ z
+    → take k into ++ rest_cells r c w new old (drop k old) i j ≡ take (k + 1) (set into k z) ++ rest_cells r c w new old (drop (k + 1) old) (next_row w i j) (next_column w i j)
+unfolding rest_cells
+rest_written r c w i j k new old into x z l s e u =
     rw (at_drop old k x l e, u) (joined into k z (rest_cells r c w new old (drop (k + 1) old) (next_row w i j) (next_column w i j)) (omega arith))
 
 pub rest_nothing : (r c w i j k : ℕ) (new old : List Rational) → length old ≤ k → answer entry_is_owed (rest_ops r c w new old (drop k old) i j) (tt {0}) ≡ Ok (tt {0})

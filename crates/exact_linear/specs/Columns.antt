@@ -7,6 +7,7 @@
 --                              matrices, then one that is zero
 --     columns_of n given       these columns as matrices of n rows
 --     start_table n given      the table over the units
+--     with_ones rows width xs  the entries xs of so many rows, with 1 in each row of the last column
 --     with_sum t               the table t with 1 in each row of its last column
 --     with_sum_of A t          the columns A with the sum of t's basic columns as the last
 --     HasCoordinates A t       the basic columns of t are a basis of the columns A, and the entry at row i, column j
@@ -15,14 +16,14 @@
 --
 -- A unit is the symmetric matrix with 1 at (a,b) and (b,a), in the order of a lower triangle. Rows, columns and places count
 -- from 0.
-use Rattle.std.specs.Prelude.{ℕ, ◌+◌, ◌-◌, ◌<◌, ◌≡◌, ◌≢◌, pos, Bool, List, [], length, if◌then◌else◌, nat_lt, nat_eq, slice_index_or}
+use Rattle.std.specs.Prelude.{ℕ, ◌+◌, ◌*◌, ◌-◌, ◌<◌, ◌≡◌, ◌≢◌, pos, Bool, List, [], length, if◌then◌else◌, nat_lt, nat_eq, slice_index_or}
 use Rattle.std.specs.List.{range_with_len}
 use Rattle.exact_forms.specs.Rational.{Rational, whole}
 use Rattle.exact_forms.specs.Sums.{sum_ℚ}
 use Rattle.exact_forms.specs.Triangles.{triangle}
 use Rattle.exact_forms.specs.Coordinates.{Columns, IsBasis, IsShown}
 use Rattle.symmetric_matrix.specs.Symmetric.{Symmetric}
-use Rattle.exact_linear.specs.Tables.{Table, rows_of, table_entry, basic_at, cells}
+use Rattle.exact_linear.specs.Tables.{Table, rows_of, entry_of, table_entry, basic_at, cells}
 
 unfoldable pub place_in : ℕ → ℕ → ℕ
 place_in a b = if nat_lt a b then triangle b + a else triangle a + b
@@ -47,8 +48,12 @@ start_table n given = record {
   basic = range_with_len 0 (triangle n);
 }
 
+abbrev pub with_ones : ℕ → ℕ → List Rational → List Rational
+with_ones rows width xs =
+    cells rows width (λ i j. if nat_eq (j + 1) width then whole (pos 1) else entry_of xs (i * width + j))
+
 abbrev pub with_sum : Table → Table
-with_sum t = record { width = t.width; entries = cells (rows_of t) t.width (λ i j. if nat_eq (j + 1) t.width then whole (pos 1) else table_entry t i j); basic = t.basic }
+with_sum t = record { width = t.width; entries = with_ones (rows_of t) t.width t.entries; basic = t.basic }
 
 abbrev pub with_sum_of : Columns → Table → Columns
 with_sum_of A t = record {

@@ -19,7 +19,7 @@
 --     first_row t c            the first such row
 --     brought_in t c, bring_ops t c    the table after the exchange in that row, if there is one, and its operations
 --     first_bases t k, first_ops t k   the same for the first k columns after the units, one after the other
---     IsLaidOut                a table of so many rows, and the memory beside it
+--     IsLaidOut                a table of so many rows, and the row beside it
 --
 -- Rows and columns of tables count from 0. An operation shows its place as it is told, from 1.
 use Rattle.std.specs.Prelude.{ℕ, zero, suc, ◌+◌, ◌*◌, pos, Bool, List, [], ◌∷◌, ◌++◌, map, length, Option, Some, None, not, ◌&&◌, if◌then◌else◌, nat_eq, nat_lt, slice_range, slice_set, slice_index_or, ◌<◌, ◌≡◌, ◌≤◌, negsuc, false}
@@ -122,10 +122,9 @@ unfoldable pub first_ops : Table → ℕ → List EntryOp
 first_ops t zero = []
 first_ops t (suc k) = first_ops t k ++ bring_ops (first_bases t k) (rows_of t + k)
 
-pub record IsLaidOut (rows width : ℕ) (entries pivots spare : List Rational) (basic : List ℕ) : Type 0 where
+pub record IsLaidOut (rows width : ℕ) (entries pivots : List Rational) (basic : List ℕ) : Type 0 where
   pub cells : length entries ≡ rows * width
   pub row : length pivots ≡ width
-  pub room : length spare ≡ rows * width
   pub places : length basic ≡ rows
   pub positive : 1 ≤ width
   pub within : (i : ℕ) → i < rows → slice_index_or basic i 0 < width

@@ -1,4 +1,5 @@
 pub mod Tables
+pub mod Whole
 pub mod Columns
 pub mod Exchange
 pub mod FirstBasis

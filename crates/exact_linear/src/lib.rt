@@ -3,9 +3,11 @@
 
 mod entry;
 mod indices;
+mod kept;
 mod pivot;
 mod squares;
 mod tableau;
+mod whole;
 
 pub use entry::{EntryOp, EntryPart, divided_entry};
 pub use indices::contains;

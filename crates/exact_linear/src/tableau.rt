@@ -11,11 +11,10 @@ ghost use Rattle.exact_linear.specs.Columns.{start_cell, no_matrix, columns_of, 
 ghost use Rattle.exact_linear.specs.Exchange.{entry_is_owed, exchange_ops, exchanged, first_row, brought_in, bring_ops, first_bases, first_ops};
 
 use crate::entry::EntryOp;
-use crate::pivot::exchange_into;
+use crate::kept::Entries;
 use fraction128::Fraction;
 use std::alloc::{AllocError, Global};
 use std::marker::Model;
-use std::mem;
 use symmetric_matrix::SymInt;
 
 /// A table of fractions: the entry of a row and a column is the coefficient of the row's basic column in the column's matrix.
@@ -25,11 +24,10 @@ use symmetric_matrix::SymInt;
 pub struct Tableau {
     rows: usize,
     width: usize,
-    entries: Vec<Fraction>,
+    entries: Entries,
     basic: Vec<usize>,
-    // The row and the entries that an exchange makes, until it is done.
+    // The row that an exchange of fractions makes.
     pivot_row: Vec<Fraction>,
-    spare: Vec<Fraction>,
 }
 
 impl Model for Tableau {
@@ -38,9 +36,9 @@ impl Model for Tableau {
 
     ghost Value = { Table };
 
-    ghost view = { λ t. record { width = t.width; entries = t.entries.items; basic = t.basic.items } };
+    ghost view = { λ t. record { width = t.width; entries = t.entries; basic = t.basic.items } };
 
-    ghost invariant = { λ t. IsLaidOut t.rows t.width t.entries.items t.pivot_row.items t.spare.items t.basic.items };
+    ghost invariant = { λ t. IsLaidOut t.rows t.width t.entries t.pivot_row.items t.basic.items };
 }
 
 impl Tableau {
@@ -90,7 +88,8 @@ impl Tableau {
         requires last_column { column ≤ self.now.width }
         ensures { result ≡ table_entry self.now (row - 1) (column - 1) }
     {
-        self.entries[(row - 1) * self.width + (column - 1)]
+        let _len = self.entries.len();
+        self.entries.at((row - 1) * self.width + (column - 1))
     }
 
     /// Makes a column basic in a row; both count from 1. The entry there isn't zero.
@@ -122,16 +121,8 @@ impl Tableau {
         ensures kept { IfErr result (λ _. self.new ≡ self.old) }
         ensures rectangle { IsRectangle self.old }
     {
-        exchange_into(
-            row,
-            column,
-            self.width,
-            self.rows,
-            &self.entries,
-            &mut self.pivot_row,
-            &mut self.spare,
-        )?;
-        mem::swap(&mut self.entries, &mut self.spare);
+        self.entries
+            .exchange(row, column, self.width, self.rows, &mut self.pivot_row)?;
         self.basic[row] = column;
         Ok(())
     }
@@ -149,7 +140,7 @@ impl Tableau {
         ensures sum { self.new ≡ with_sum self.old }
         ensures rectangle { IsRectangle self.old }
     {
-        fill_last_column(self.width, self.rows, &mut self.entries);
+        self.entries.fill_last(self.width, self.rows);
     }
 
     /// Brings a column in, counted from 1: it becomes basic in the first row that holds a unit and has an entry in it that
@@ -176,7 +167,10 @@ impl Tableau {
         ensures { result ≡ first_row self.now column }
     {
         for row in 0..self.rows {
-            if self.basic[row] < self.rows && !self.entries[row * self.width + column].is_zero() {
+            let _len = self.entries.len();
+            if self.basic[row] < self.rows
+                && !self.entries.at(row * self.width + column).is_zero()
+            {
                 return Some(row);
             }
         }
@@ -213,15 +207,14 @@ impl Tableau {
         let width = rows + columns.len() + 1;
         let entries = start_entries(alloc, rows, width, columns)?;
         let pivot_row = Vec::from_slice(alloc, &entries[..width])?;
-        let spare = Vec::from_slice(alloc, &entries)?;
         let basic = numbers_below(alloc, rows)?;
+        let entries = Entries::new(alloc, entries)?;
         Ok(Tableau {
             rows,
             width,
             entries,
             basic,
             pivot_row,
-            spare,
         })
     }
 }
@@ -233,19 +226,6 @@ fn units_of(n: u8) -> usize
     ensures few { result ≤ 36 }
 {
     usize::from(n) * (usize::from(n) + 1) / 2
-}
-
-// 1 in each row of the last column.
-fn fill_last_column(width: usize, rows: usize, entries: &mut [Fraction])
-    requires size { length entries.old ≡ rows * width }
-    requires width { 1 ≤ width }
-    ensures { entries.new ≡ cells rows width (λ i j. if nat_eq (j + 1) width then whole (pos 1) else entry_of entries.old (i * width + j)) }
-{
-    for k in 0..entries.len() {
-        if k % width + 1 == width {
-            entries[k] = Fraction::whole(1);
-        }
-    }
 }
 
 // The numbers from 0 on below `end`.

@@ -223,24 +223,36 @@ multiple_positive : (e d : ℕ) → 0 < e → 0 < d → 0 < multiple e d
 unfolding multiple
 multiple_positive e d p q = (let h = positive_times e (d / gcd_of e d) p (part_above e d q) in omega (arith, ints, h))
 
--- the least common multiple of e and the denominators
+-- the least common multiple of e and the denominators of some entries
+pub common_multiple_positive : (e : ℕ) (ps : List PlacedEntry) → 0 < e → 0 < common_multiple e ps
+unfolding common_multiple
+common_multiple_positive e [] h = h
+common_multiple_positive e (p ∷ ps) h = common_multiple_positive (multiple e p.value.den) ps (multiple_positive e p.value.den h (den_positive p.value))
+
+common_multiple_first : (e : ℕ) (ps : List PlacedEntry) → e ∣ common_multiple e ps
+unfolding common_multiple
+common_multiple_first e [] = dvd_refl e
+common_multiple_first e (p ∷ ps) = dvd_trans e (multiple_first e p.value.den) (common_multiple_first (multiple e p.value.den) ps)
+
+pub common_multiple_each : (e : ℕ) (ps : List PlacedEntry) → AllByRecursion (λ p. p.value.den ∣ common_multiple e ps) ps
+unfolding common_multiple
+common_multiple_each e [] = tt
+common_multiple_each e (p ∷ ps) = (
+  dvd_trans p.value.den (multiple_second e p.value.den (den_positive p.value)) (common_multiple_first (multiple e p.value.den) ps),
+  common_multiple_each (multiple e p.value.den) ps,
+)
+
+-- the same of entries with their places
 abbrev common_from : ℕ → Place → List Rational → ℕ
 common_from e p qs = common_multiple e (placed_from p qs)
-
-common_positive : (e : ℕ) (p : Place) (qs : List Rational) → 0 < e → 0 < common_from e p qs
-unfolding common_multiple placed_from
-common_positive e p [] h = h
-common_positive e p (q ∷ qs) h = common_positive (multiple e q.den) (next_place p) qs (multiple_positive e q.den h (den_positive q))
-
-common_first : (e : ℕ) (p : Place) (qs : List Rational) → e ∣ common_from e p qs
-unfolding common_multiple placed_from
-common_first e p [] = dvd_refl e
-common_first e p (q ∷ qs) = dvd_trans e (multiple_first e q.den) (common_first (multiple e q.den) (next_place p) qs)
 
 common_each : (e : ℕ) (p : Place) (qs : List Rational) → AllByRecursion (λ q. q.den ∣ common_from e p qs) qs
 unfolding common_multiple placed_from
 common_each e p [] = tt
-common_each e p (q ∷ qs) = (dvd_trans q.den (multiple_second e q.den (den_positive q)) (common_first (multiple e q.den) (next_place p) qs), common_each (multiple e q.den) (next_place p) qs)
+common_each e p (q ∷ qs) = (
+  dvd_trans q.den (multiple_second e q.den (den_positive q)) (common_multiple_first (multiple e q.den) (placed_from (next_place p) qs)),
+  common_each (multiple e q.den) (next_place p) qs,
+)
 
 common_least : (e : ℕ) (p : Place) (qs : List Rational) (m : ℕ) → e ∣ m → AllByRecursion (λ q. q.den ∣ m) qs → common_from e p qs ∣ m
 unfolding common_multiple placed_from
@@ -249,20 +261,20 @@ common_least e p (q ∷ qs) m h hs = common_least (multiple e q.den) (next_place
 
 pub least_common : (p : Place) (qs : List Rational) → IsLeastCommon (common_multiple 1 (placed_from p qs)) qs
 least_common p qs = record {
-  positive = common_positive 1 p qs (omega arith);
+  positive = common_multiple_positive 1 (placed_from p qs) (omega arith);
   common = All-from_recursion (λ q. q.den ∣ common_from 1 p qs) qs (common_each 1 p qs);
   least = λ m h. common_least 1 p qs m (one-dvd m) (recursion_from_All (λ q. q.den ∣ m) qs h);
 }
 
 -- numerators over a common denominator are the fractions
-over : (d : ℕ) (q : Rational) → 0 < d → q.den ∣ d → ratio (q.num *ℤ pos (d / q.den)) d ≡ q
-over d q some h =
+pub over_common : (d : ℕ) (q : Rational) → 0 < d → q.den ∣ d → ratio (q.num *ℤ pos (d / q.den)) d ≡ q
+over_common d q some h =
     ratio_same (q.num *ℤ pos (d / q.den)) q.num d q.den some (den_positive q) (mul_assoc_ℤ q.num (pos (d / q.den)) (pos q.den) ∙ ap (λ (n : ℕ). q.num *ℤ pos n) (div-mul_cancel q.den h)) ∙ ratio_parts q
 
 pub numerators-over : (d : ℕ) (qs : List Rational) → 0 < d → AllByRecursion (λ q. q.den ∣ d) qs → map (λ z. ratio z d) (numerators_over d qs) ≡ qs
 unfolding numerators_over
 numerators-over d [] some h = refl
-numerators-over d (q ∷ qs) some h = ap₂ (λ x xs. x ∷ xs) (over d q some h.0) (numerators-over d qs some h.1)
+numerators-over d (q ∷ qs) some h = ap₂ (λ x xs. x ∷ xs) (over_common d q some h.0) (numerators-over d qs some h.1)
 
 pub gcd_some : (a d : ℕ) → 0 < d → 0 < gcd_of a d
 gcd_some a zero h = absurd (omega arith)

@@ -9,4 +9,5 @@ pub mod Tables
 pub mod MatrixTexts
 pub mod Clearings
 pub mod ClearedMatrices
+pub mod Quotients
 pub mod Ranges

@@ -1,8 +1,7 @@
 -- A row that is written is read as that row.
-use Rattle.std.proofs.Common.{◌≡◌, ℕ, ◌<◌, ◌≤◌, List, [], ◌∷◌, length, map, Result, Ok, refl, sym, ap, ◌∙◌, arith, lit<}
+use Rattle.std.proofs.Common.{◌≡◌, ℕ, ◌<◌, List, [], ◌∷◌, length, map, Result, Ok, refl, ap, ◌∙◌, arith, lit<}
 use Rattle.std.specs.List.{AllByRecursion}
 use Rattle.exact_forms.specs.Rational.{Rational}
-use Rattle.text_lines.specs.Lines.{TextLine}
 use Rattle.text_lines.specs.Readings.{numbers_of, at_line}
 use Rattle.text_lines.specs.Spelling.{fraction_word}
 use Rattle.text_lines.proofs.FractionTexts.{IsWithin, IsPlainWord, fraction-read, plain-fraction}

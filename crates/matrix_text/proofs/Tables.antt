@@ -1,15 +1,14 @@
 -- A text that is written is read as what was written.
-use Rattle.std.proofs.Common.{◌≡◌, ℕ, ◌+◌, ◌<◌, ◌^◌, List, [], ◌∷◌, ◌++◌, length, map, Result, Ok, codes, refl, ap, ◌∙◌, arith}
+use Rattle.std.proofs.Common.{◌≡◌, ℕ, ◌+◌, ◌<◌, List, [], ◌∷◌, ◌++◌, length, map, Result, Ok, codes, refl, ap, ◌∙◌, arith}
 use Rattle.std.specs.List.{AllByRecursion, flat_map}
 use Rattle.std.specs.Fmt.{decimal}
 use Rattle.std.proofs.lemmas.Bool.{lt-ltb}
-use Rattle.std.proofs.lemmas.List.Elements.{All-from_recursion}
 use Rattle.exact_forms.specs.Rational.{Rational}
-use Rattle.text_lines.specs.Lines.{TextLine, content_lines, end_line}
+use Rattle.text_lines.specs.Lines.{content_lines, end_line}
 use Rattle.text_lines.specs.Readings.{at_line}
 use Rattle.text_lines.specs.Spelling.{line_of_words, fraction_word}
 use Rattle.text_lines.proofs.Numerals.{is_whole-decimal, whole_value-decimal}
-use Rattle.text_lines.proofs.FractionTexts.{IsPlainWord, plain-decimal, plain-codes}
+use Rattle.text_lines.proofs.FractionTexts.{plain-decimal, plain-codes}
 use Rattle.text_lines.proofs.PlainLines.{joined, IsPlainLine, numbered, in_line-joined, content_lines-written}
 use Rattle.matrix_text.specs.Matrix.{TextRow, rows_of_lines, header_of, size_of_word, fault_at, read_line, table_of}
 use Rattle.matrix_text.specs.declared.fault.TextKind.{TextKind}

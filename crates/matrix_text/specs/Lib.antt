@@ -4,4 +4,5 @@ pub mod Matrix
 pub mod Rows
 pub mod Canonical
 pub mod Clearing
+pub mod Quotients
 pub mod Refusals

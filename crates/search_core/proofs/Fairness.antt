@@ -8,39 +8,20 @@ use Rattle.unimodular_cone.specs.Paths.{Path, IsAbove, IsNoLater, IsNoDeeper}
 use Rattle.unimodular_cone.specs.Cones.{Matrix, cone_at}
 use Rattle.unimodular_cone.specs.declared.Mode.{Mode}
 use Rattle.unimodular_cone.specs.Tree.{IsInTree, IsLow, IsFirstLowAt, IsFirstLow, HasWideChild, IsOpen, IsFirstOpen, IsFirstOverBelow}
-use Rattle.search_core.specs.Fair.{Fate, AtLimit, Judged, word_of, bound_under, IsSplit, HasPath, IsDue, IsFair, IsLowFate}
+use Rattle.search_core.specs.Fair.{Fate, AtLimit, Judged, word_of, bound_under, IsSplit, HasPath, IsFair, IsLowFate}
 use Rattle.search_core.proofs.PathFates.{IsClosedUnder, IsPathFate}
 use Rattle.search_core.proofs.ShownFates.{judged_fate}
-use Rattle.unimodular_cone.proofs.Tree.{length_child, in_tree_root, in_tree_child}
+use Rattle.search_core.proofs.Reaching.{due_in_tree}
 use Rattle.search_core.proofs.Settle.{split_not_wide, split_above_low, low_itself, word_of_low, split_above_open, IsLimitFate, split_or_limit, split_can}
 
 pub append_nil : (p : Path) → p ++ [] ≡ p
 append_nil [] = refl
 append_nil (s ∷ p) = ap (λ (w : Path). s ∷ w) (append_nil p)
 
-lt_of_ne : (x y : ℕ) → x ≤ y → x ≢ y → x < y
-lt_of_ne x y h ne = omega arith
-
 module _ (m : Mode) (n : ℕ) (q : Matrix) (d : ℕ) (judged : List Judged) (final : ℕ) (s : IsSymmetric n q) (fair : IsFair m n q d judged final) where
   -- each judged path is in the tree
-  judged_in_tree_by : (fuel : ℕ) (j : Judged) → Contains judged j → length j.path ≤ fuel → IsInTree n q d j.path
-  judged_in_tree_by zero j c short = at_due (fair.no_other j c)
-    where
-      at_due : IsDue judged j.path → IsInTree n q d j.path
-      at_due (inl e) = subst (IsInTree n q d) (sym e) (in_tree_root n q d)
-      at_due (inr (k, side, ck, split, e)) = absurd (omega (arith, ap length e, length_child k.path side))
-  judged_in_tree_by (suc fuel) j c short = at_due (judged_in_tree_by fuel) (fair.no_other j c)
-    where
-      at_due : ((k : Judged) → Contains judged k → length k.path ≤ fuel → IsInTree n q d k.path) → IsDue judged j.path → IsInTree n q d j.path
-      at_due rec (inl e) = subst (IsInTree n q d) (sym e) (in_tree_root n q d)
-      at_due rec (inr (k, side, ck, split, e)) =
-          let t : IsInTree n q d k.path = rec k ck (omega (arith, ap length e, length_child k.path side)) in
-          let can = split_can m n q d k.path k.fate (judged_fate m n q d final k (fair.judgements k ck)) split in
-          let h : length k.path ≤ d = t.short in
-          subst (IsInTree n q d) (sym e) (in_tree_child n q d k.path side t (lt_of_ne (length k.path) d h can.1) can.0)
-
   pub judged_in_tree : (j : Judged) → Contains judged j → IsInTree n q d j.path
-  judged_in_tree j c = judged_in_tree_by (length j.path) j c (omega arith)
+  judged_in_tree j c = due_in_tree m n q d final judged fair.judgements fair.no_other j.path (fair.no_other j c)
 
   -- a path is judged where each judgement above it is a Split
   pub reached : (p : Path) → ((j : Judged) → Contains judged j → IsAbove j.path p → IsSplit j.fate) → HasPath judged p

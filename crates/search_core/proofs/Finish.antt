@@ -112,7 +112,7 @@ from_below_splits x (j ∷ judged) h = by (here (times x (children_of j.path j.f
     by (inl a) rec = let r = from_children x j.path j.fate a in (j, r.1.0, contains_here j judged, r.0, r.1.1)
     by (inr b) rec = let r = rec b in (r.0, r.1, contains_there j judged r.0 r.2, r.3, r.4)
 
-from_due : (x : Path) (judged : List Judged) → 1 ≤ times x (due judged) → IsDue judged x
+pub from_due : (x : Path) (judged : List Judged) → 1 ≤ times x (due judged) → IsDue judged x
 from_due x judged h = by (path_or_not x [])
   where
     by : ((x ≡ []) ⊎ (x ≢ [])) → IsDue judged x

@@ -12,9 +12,9 @@ use Rattle.search_core.specs.Fair.{Fate, Closed, Split, Low, Dropped, AtLimit, W
 use Rattle.search_core.specs.Machine.{Hand, Empty, Taken, Offered, State, hand, children_of, IsTake, IsOffer, IsJudge, held, in_hands, paths, standing, below_splits, due, times, IsCoded, IsKept}
 use Rattle.search_core.proofs.PathFates.{IsPathFate}
 use Rattle.search_core.proofs.ShownFates.{path_fate}
-use Rattle.exact_forms.proofs.Vectors.{contains_here, contains_there, contains_cons}
+use Rattle.std.proofs.lemmas.List.Elements.{Contains-push, Contains-append_left, Contains-push_cases}
 use Rattle.search_core.proofs.LeastValues.{least_value_le}
-use Rattle.search_core.proofs.Times.{times-append, times_cons, times_hands, times_none}
+use Rattle.search_core.proofs.Times.{times-append, times_cons, times_hands, times_none, times_paths_append, times_below_append}
 
 -- ---- hands
 pub hand_same : (hands : List Hand) (k : ℕ) (h : Hand) → k < length hands → slice_index_or (slice_set hands k h) k Empty ≡ h
@@ -217,7 +217,7 @@ judge_keeps m n q d s t k kept step = record {
   below_codes = λ p c. rw step.word (kept.below_codes p (back p c));
   attained = attained kept.attained;
   noted = λ i p w l e. rw step.word (noted i p w l e (number_or_not i k));
-  judgements = λ j c. rw step.word (judgements j (contains_cons new s.judged j (subst (λ (w : List Judged). Contains w j) step.judged c)));
+  judgements = λ j c. rw step.word (judgements j (Contains-push_cases s.judged new j (subst (λ (w : List Judged). Contains w j) step.judged c)));
 }
   where
     new : Judged
@@ -242,24 +242,25 @@ judge_keeps m n q d s t k kept step = record {
     grown : (x : Path) → times x (standing t) ≡ times x (standing s) + times x (children_of step.path step.fate)
     grown x =
         let h = in_hand x in
-        let w : times x t.waiting ≡ times x (children_of step.path step.fate ++ s.waiting) = ap (times x) step.waiting in
-        let j : times x (paths t.judged) ≡ times x (step.path ∷ paths s.judged) = ap (λ (u : List Judged). times x (paths u)) step.judged in
-        omega (arith, times_standing x s, times_standing x t, times-append x (children_of step.path step.fate) s.waiting, times_cons x step.path (paths s.judged))
+        let w : times x t.waiting ≡ times x (s.waiting ++ children_of step.path step.fate) = ap (times x) step.waiting in
+        let j : times x (paths t.judged) ≡ times x (paths (s.judged ++ new ∷ [])) = ap (λ (u : List Judged). times x (paths u)) step.judged in
+        omega (arith, times_standing x s, times_standing x t, times-append x s.waiting (children_of step.path step.fate), times_paths_append x s.judged (new ∷ []))
 
     due_grown : (x : Path) → times x (due t.judged) ≡ times x (due s.judged) + times x (children_of step.path step.fate)
     due_grown x =
-        let j : times x (due t.judged) ≡ times x ([] ∷ (children_of step.path step.fate ++ below_splits s.judged)) = ap (λ (u : List Judged). times x (due u)) step.judged in
-        omega (arith, times_cons x [] (below_splits s.judged), times_cons x [] (children_of step.path step.fate ++ below_splits s.judged), times-append x (children_of step.path step.fate) (below_splits s.judged))
+        let j : times x (due t.judged) ≡ times x ([] ∷ below_splits (s.judged ++ new ∷ [])) = ap (λ (u : List Judged). times x (due u)) step.judged in
+        let c : times x (below_splits (new ∷ [])) ≡ times x (children_of step.path step.fate) = times-append x (children_of step.path step.fate) [] ∙ omega (arith, times_none x) in
+        omega (arith, times_cons x [] (below_splits s.judged), times_cons x [] (below_splits (s.judged ++ new ∷ [])), times_below_append x s.judged (new ∷ []))
 
     not_now : (i : ℕ) (p : Path) (w : ℕ) → hand t i ≡ Offered p w → i ≡ k → ⊥
     not_now i p w e same = let a : Offered p w ≡ Empty = sym e ∙ ap (λ (u : ℕ). slice_index_or t.hands u Empty) same ∙ hand_is in cc
 
     back : (p : Path) → IsCoded t p → IsCoded s p
-    back p (inl (j, c, e)) = by (contains_cons new s.judged j (subst (λ (w : List Judged). Contains w j) step.judged c))
+    back p (inl (j, c, e)) = by (Contains-push_cases s.judged new j (subst (λ (w : List Judged). Contains w j) step.judged c))
       where
-        by : ((new ≡ j) ⊎ Contains s.judged j) → IsCoded s p
-        by (inl same) = inr (k, step.noted, step.worker, step.offered ∙ ap (λ (r : Path). Offered r step.noted) (ap (λ (u : Judged). u.path) same ∙ e))
-        by (inr c) = inl (j, c, e)
+        by : (Contains s.judged j ⊎ (new ≡ j)) → IsCoded s p
+        by (inl c) = inl (j, c, e)
+        by (inr same) = inr (k, step.noted, step.worker, step.offered ∙ ap (λ (r : Path). Offered r step.noted) (ap (λ (u : Judged). u.path) same ∙ e))
     back p (inr (i, w, l, e)) = by (number_or_not i k)
       where
         by : ((i ≡ k) ⊎ (i ≢ k)) → IsCoded s p
@@ -267,13 +268,13 @@ judge_keeps m n q d s t k kept step = record {
         by (inr ne) = inr (i, w, (let g : length t.hands ≡ length s.hands = same_length in omega arith), sym (hand_was i ne) ∙ e)
 
     forth : (p : Path) → IsCoded s p → IsCoded t p
-    forth p (inl (j, c, e)) = inl (j, subst (λ (w : List Judged). Contains w j) (sym step.judged) (contains_there new s.judged j c), e)
+    forth p (inl (j, c, e)) = inl (j, subst (λ (w : List Judged). Contains w j) (sym step.judged) (Contains-append_left s.judged (new ∷ []) j c), e)
     forth p (inr (i, w, l, e)) = by (number_or_not i k)
       where
         by : ((i ≡ k) ⊎ (i ≢ k)) → IsCoded t p
         by (inl same) =
             let a : Offered step.path step.noted ≡ Offered p w = sym step.offered ∙ ap (hand s) (sym same) ∙ e in
-            inl (new, subst (λ (u : List Judged). Contains u new) (sym step.judged) (contains_here new s.judged), (cc))
+            inl (new, subst (λ (u : List Judged). Contains u new) (sym step.judged) (Contains-push s.judged new), (cc))
         by (inr ne) = inr (i, w, (let g : length t.hands ≡ length s.hands = same_length in omega arith), hand_was i ne ∙ e)
 
     attained : ((s.word ≡ start_word m n q) ⊎ ((p : Path) × IsCoded s p × (s.word ≡ code m n q p))) → (t.word ≡ start_word m n q) ⊎ ((p : Path) × IsCoded t p × (t.word ≡ code m n q p))
@@ -284,11 +285,9 @@ judge_keeps m n q d s t k kept step = record {
     noted i p w l e (inl same) = absurd (not_now i p w e same)
     noted i p w l e (inr ne) = kept.noted i p w (let g : length t.hands ≡ length s.hands = same_length in omega arith) (sym (hand_was i ne) ∙ e)
 
-    judgements : (j : Judged) → ((new ≡ j) ⊎ Contains s.judged j) → IsJudgement m n q d s.word j
-    judgements j (inr c) = kept.judgements j c
-    judgements j (inl same) =
+    judgements : (j : Judged) → (Contains s.judged j ⊎ (new ≡ j)) → IsJudgement m n q d s.word j
+    judgements j (inl c) = kept.judgements j c
+    judgements j (inr same) =
         let b = kept.noted k step.path step.noted step.worker step.offered in
         let o : IsOwn m n q d s.word step.path step.fate = own_word m n q d s.word step.noted step.path step.fate step.is_fate b.0 b.1 (kept.below_codes step.path (inr (k, step.noted, step.worker, step.offered))) in
         subst (IsJudgement m n q d s.word) same (record { least = refl; fate = o.fate; above_final = o.above_final; below_code = o.below_code })
-
--- ---- every event

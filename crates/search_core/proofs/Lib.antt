@@ -7,6 +7,8 @@ pub mod Answers
 pub mod Times
 pub mod Kept
 pub mod Finish
+pub mod Reaching
+pub mod Steps
 pub mod Serial
 pub mod Laws
 pub mod ShownFates
@@ -15,3 +17,4 @@ pub mod WaysDown
 pub mod Parts
 pub mod Keys
 pub mod Mirrors
+mod Ways

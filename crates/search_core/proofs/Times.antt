@@ -62,6 +62,17 @@ times_hands p (g ∷ hands) (suc k) h l =
     let r : times p (in_hands (slice_set hands k h)) + times p (held (slice_index_or hands k Empty)) ≡ times p (in_hands hands) + times p (held h) = times_hands p hands k h (omega arith) in
     omega (arith, times-append p (held g) (in_hands hands), times-append p (held g) (in_hands (slice_set hands k h)))
 
+-- ---- judgements
+pub times_paths_append : (p : Path) (a b : List Judged) → times p (paths (a ++ b)) ≡ times p (paths a) + times p (paths b)
+times_paths_append p [] b = omega (arith, times_none p)
+times_paths_append p (j ∷ a) b = let h : times p (paths (a ++ b)) ≡ times p (paths a) + times p (paths b) = times_paths_append p a b in
+    omega (arith, times_cons p j.path (paths a), times_cons p j.path (paths (a ++ b)))
+
+pub times_below_append : (p : Path) (a b : List Judged) → times p (below_splits (a ++ b)) ≡ times p (below_splits a) + times p (below_splits b)
+times_below_append p [] b = omega (arith, times_none p)
+times_below_append p (j ∷ a) b = let h : times p (below_splits (a ++ b)) ≡ times p (below_splits a) + times p (below_splits b) = times_below_append p a b in
+    omega (arith, times-append p (children_of j.path j.fate) (below_splits a), times-append p (children_of j.path j.fate) (below_splits (a ++ b)))
+
 -- ---- children
 no_snoc : (p : Path) (s : Bool) → p ++ s ∷ [] ≢ []
 no_snoc [] s e = (cc)

@@ -10,11 +10,13 @@
 --     IsFinalWord                the least of the start word and the codes of the judged cones
 --     IsFair m n q d list final  one judgement for the root and for each child of a Split, and for no other path
 --     HasAllRelevant             a part of a list has the judgements that an answer looks at
---     IsRelevant m word j        an answer may look at j: it is low, an end, or its least value is at most the word's bound (Least)
+--     IsRelevantFate m word f z  an answer may look at a judgement of fate f and least value z: it is low, an end, or z is at
+--                                most the word's bound (Least)
+--     IsIrrelevantFate m word f z   no answer looks at such a judgement, where the final word is at most this
 --     IsIrrelevant m word j      no answer looks at j, where the final word is at most this
 --     IsKeptOrIrrelevant         j is kept, or no answer looks at it
 --     IsFairPart                 the judgements of a fair list that an answer looks at, and maybe others of it
-use Rattle.std.specs.Prelude.{ℕ, pos, ◌<ℤ◌, ◌≤ℤ◌, ◌<◌, ◌≤◌, ◌≡◌, ◌≢◌, ◌⊎◌, Bool, List, [], ◌∷◌, ◌++◌}
+use Rattle.std.specs.Prelude.{ℕ, ℤ, pos, ◌<ℤ◌, ◌≤ℤ◌, ◌<◌, ◌≤◌, ◌≡◌, ◌≢◌, ◌⊎◌, Bool, List, [], ◌∷◌, ◌++◌}
 use Rattle.std.specs.List.{Contains}
 use Rattle.unimodular_cone.specs.Paths.{Path}
 use Rattle.unimodular_cone.specs.Cones.{Matrix, cone_at}
@@ -95,15 +97,18 @@ pub record HasAllRelevant (m : Mode) (final : ℕ) (all part : List Judged) : Ty
   pub ends : (j : Judged) → Contains all j → IsEndFate j.fate → Contains part j
   pub attaining : m ≡ Least → 256 ≤ final → (j : Judged) → Contains all j → j.least ≡ bound_under Least final → Contains part j
 
--- an answer may look at j, which was made under this word
-abbrev pub IsRelevant : Mode → ℕ → Judged → Type 0
-IsRelevant m word j = IsLowFate j.fate ⊎ (IsEndFate j.fate ⊎ ((m ≡ Least) × (256 ≤ word) × (j.least ≤ℤ bound_under Least word)))
+-- an answer may look at a judgement of this fate and this least value, which was made under this word
+abbrev pub IsRelevantFate : Mode → ℕ → Fate → ℤ → Type 0
+IsRelevantFate m word fate least = IsLowFate fate ⊎ (IsEndFate fate ⊎ ((m ≡ Least) × (256 ≤ word) × (least ≤ℤ bound_under Least word)))
 
--- no answer looks at j, which was made under this word or a greater one
-pub record IsIrrelevant (m : Mode) (word : ℕ) (j : Judged) : Type 0 where
-  pub not_low : ¬ IsLowFate j.fate
-  pub no_end : ¬ IsEndFate j.fate
-  pub above : m ≡ Least → 256 ≤ word → bound_under Least word <ℤ j.least
+-- no answer looks at such a judgement, which was made under this word or a greater one
+pub record IsIrrelevantFate (m : Mode) (word : ℕ) (fate : Fate) (least : ℤ) : Type 0 where
+  pub not_low : ¬ IsLowFate fate
+  pub no_end : ¬ IsEndFate fate
+  pub above : m ≡ Least → 256 ≤ word → bound_under Least word <ℤ least
+
+abbrev pub IsIrrelevant : Mode → ℕ → Judged → Type 0
+IsIrrelevant m word j = IsIrrelevantFate m word j.fate j.least
 
 -- j is kept, or no answer looks at it
 abbrev pub IsKeptOrIrrelevant : Mode → ℕ → Judged → List Judged → List Judged → Type 0

@@ -3,7 +3,10 @@ pub mod Fair
 pub mod Judging
 pub mod Answers
 pub mod Machine
+pub mod Events
 pub mod Scans
 pub mod Attaining
 pub mod Ends
 pub mod Theorems
+pub mod Kept
+pub mod Way

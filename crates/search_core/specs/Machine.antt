@@ -23,12 +23,9 @@ use Rattle.std.specs.List.{Contains}
 use Rattle.unimodular_cone.specs.Paths.{Path}
 use Rattle.unimodular_cone.specs.Cones.{Matrix, cone_at}
 use Rattle.unimodular_cone.specs.declared.Mode.{Mode}
+pub use Rattle.search_core.specs.declared.hand.Hand.{Hand}
+pub use Rattle.search_core.specs.declared.hand.Hand.TheVariants.{Empty, Taken, Offered}
 use Rattle.search_core.specs.Fair.{Fate, Closed, Split, Low, Dropped, AtLimit, Wide, Judged, least_value, code, start_word, IsFate, IsJudgement}
-
-pub data Hand : Type 0 where
-  Empty : Hand
-  Taken : Path → Hand
-  Offered : Path → ℕ → Hand
 
 pub record State : Type 0 where
   pub waiting : List Path
@@ -76,9 +73,9 @@ pub record IsJudge (m : Mode) (n : ℕ) (q : Matrix) (d : ℕ) (s : State) (k : 
   pub fate : Fate
   pub is_fate : IsFate m n q d path noted fate
   pub hands : t.hands ≡ slice_set s.hands k Empty
-  pub waiting : t.waiting ≡ children_of path fate ++ s.waiting
+  pub waiting : t.waiting ≡ s.waiting ++ children_of path fate
   pub word : t.word ≡ s.word
-  pub judged : t.judged ≡ record { path = path; fate = fate; least = least_value n q (cone_at n q path) } ∷ s.judged
+  pub judged : t.judged ≡ s.judged ++ record { path = path; fate = fate; least = least_value n q (cone_at n q path) } ∷ []
 
 abbrev pub held : Hand → List Path
 held Empty = []

@@ -4,14 +4,19 @@
 --     FateIsOfThePath   the fate of a cone as it is shown is that of the cone at its path
 --     CodeIsOfThePath   so is its code
 --     RunsAreFair       the start is kept, each event keeps what is kept, and at the end the judgements are fair with the word
-use Rattle.std.specs.Prelude.{ℕ, ◌≡◌, ◌≤◌}
-use Rattle.unimodular_cone.specs.Cones.{Matrix}
+--     EveryRunIsFair    whatever events a new machine of any number of workers is told: once nothing waits and nothing is in
+--                       hand, its judgements are fair with the word
+use Rattle.std.specs.Prelude.{ℕ, ◌≡◌, ◌≤◌, List}
+use Rattle.symmetric_matrix.specs.Symmetric.{Symmetric, entry}
+use Rattle.unimodular_cone.specs.Cones.{Matrix, Fits, unit_vectors}
 use Rattle.unimodular_cone.specs.Paths.{Path}
 use Rattle.unimodular_cone.specs.Shown.{ShownCone, IsConeAt}
 use Rattle.unimodular_cone.specs.declared.Mode.{Mode}
 use Rattle.search_core.specs.Fair.{Fate, IsFate, IsFair, code}
 use Rattle.search_core.specs.Judging.{shown_code, IsShownFate}
 use Rattle.search_core.specs.Machine.{State, IsTake, IsOffer, IsJudge, IsKept, IsStart, IsEnd}
+use Rattle.search_core.specs.declared.event.Event.{Event}
+use Rattle.search_core.specs.Events.{ShownMachine, IsNewMachine, IsEventRun, HasEnded}
 
 abbrev pub AtMostOneFate : Type 0
 AtMostOneFate = (m : Mode) (n : ℕ) (q : Matrix) (d : ℕ) (path : Path) (word : ℕ) (f g : Fate) → IsFate m n q d path word f → IsFate m n q d path word g → f ≡ g
@@ -29,3 +34,7 @@ pub record RunsAreFair : Type 0 where
   pub offer : (m : Mode) (n : ℕ) (q : Matrix) (d : ℕ) (s t : State) (k : ℕ) → IsKept m n q d s → IsOffer m n q s k t → IsKept m n q d t
   pub judge : (m : Mode) (n : ℕ) (q : Matrix) (d : ℕ) (s t : State) (k : ℕ) → IsKept m n q d s → IsJudge m n q d s k t → IsKept m n q d t
   pub end : (m : Mode) (n : ℕ) (q : Matrix) (d : ℕ) (s : State) → IsKept m n q d s → IsEnd s → IsFair m n q d s.judged s.word
+
+abbrev pub EveryRunIsFair : Type 0
+EveryRunIsFair = (m : Mode) (q : Symmetric) (d workers : ℕ) (start end : ShownMachine) (events : List Event) → d ≤ 200 → Fits q.size (entry q) unit_vectors
+    → IsNewMachine m q d workers start → IsEventRun start events end → HasEnded end.state → IsFair m q.size (entry q) d end.state.judged end.state.word

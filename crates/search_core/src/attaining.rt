@@ -8,9 +8,11 @@ ghost use Rattle.unimodular_cone.specs.Answer.{IsListOf};
 ghost use Rattle.unimodular_cone.specs.Shown.{IsConeAt, IsWithinLimits, shown_generators};
 ghost use Rattle.search_core.specs.Attaining.{IsKeyOf, IsWithKey, AddsAttaining, HasGenerators, AreKeys, IsVectorsOf, ListsGenerators};
 ghost use Rattle.search_core.specs.Scans.{AreInTree};
+ghost use Rattle.search_core.specs.Way.{AreAtPaths, AddsAttainingAt};
 
 use crate::descent::{fitting_root, step_down};
 use crate::fate::Judged;
+use crate::way::go_to;
 use std::alloc::{AllocError, Global};
 use std::collections::BTreeSet;
 use symmetric_matrix::{IntVector, SymInt, VectorList};
@@ -78,6 +80,25 @@ fn add_attaining<C: ConeRead>(
     Ok(())
 }
 
+/// Puts the keys of the generators of this value of the cone at a path into a set, by the cones on the way to the last path.
+fn add_attaining_at(
+    way: &mut Vec<Cone>,
+    q: &SymInt,
+    limit: u8,
+    path: &Path,
+    minimum: u64,
+    found: &mut BTreeSet<Key>,
+) -> Result<(), AllocError>
+    requires in_tree { IsInTree q.now.size (entry q.now) limit path.now }
+    requires fits { Fits q.now.size (entry q.now) unit_vectors }
+    requires way { AreAtPaths q.now.size (entry q.now) way.old.items }
+    ensures way { OnOk result (AreAtPaths q.now.size (entry q.now) way.new.items) }
+    ensures added { OnOk result (AddsAttainingAt q.now.size (entry q.now) path.now (pos minimum) found.old.keys found.new.keys) }
+{
+    go_to(way, q, limit, path)?;
+    add_attaining(&way[way.len() - 1], minimum, found)
+}
+
 /// The cone at a path of the tree, whose root fits. The tree's depth is `limit`.
 pub(crate) fn fitting_cone(q: &SymInt, limit: u8, path: &Path) -> Cone
     requires in_tree { IsInTree q.now.size (entry q.now) limit path.now }
@@ -104,9 +125,10 @@ fn keys_attaining(
     ensures { IfOk result (λ found. HasGenerators q.now.size (entry q.now) judged.now (pos minimum) found.keys) }
 {
     let mut found: BTreeSet<Key> = BTreeSet::new(alloc);
+    let mut way = Vec::new(alloc);
     for j in judged {
         if j.least == i128::from(minimum) {
-            add_attaining(&fitting_cone(q, limit, &j.path), minimum, &mut found)?;
+            add_attaining_at(&mut way, q, limit, &j.path, minimum, &mut found)?;
         }
     }
     Ok(found)

@@ -3,9 +3,10 @@
 ghost use Rattle.std.specs.Prelude.{◌≡◌, ◌≤◌, ◌<◌, ◌-◌, ℕ, suc, min, length, Some, MatchOption, OnOk, OnErr};
 ghost use Rattle.unimodular_cone.specs.Answer.{IsLeastDiagonal};
 ghost use Rattle.unimodular_cone.specs.Shown.{shown_gram, IsWithinLimits};
-ghost use Rattle.search_core.specs.Judging.{shown_code, IsLowShown, IsFirstLowShown, IsUndecidedShown, IsShownFate, IsJudgementOf};
+ghost use Rattle.search_core.specs.Judging.{shown_code, shown_least, IsLowShown, IsFirstLowShown, IsUndecidedShown, IsShownFate, IsJudgementOf};
 ghost use Rattle.std.specs.Bool.{MatchBool};
-ghost use Rattle.search_core.specs.Fair.{IsRelevant, IsIrrelevant, IsKeptOrIrrelevant};
+ghost use Rattle.search_core.specs.Fair.{IsRelevantFate, IsIrrelevantFate};
+ghost use Rattle.search_core.specs.Kept.{IsConeKept};
 
 use crate::fate::{Fate, Judged};
 use crate::words::{bound_under, code_at, is_low_value};
@@ -27,6 +28,7 @@ fn first_low<C: ConeRead>(mode: Mode, c: &C) -> Option<u8>
 }
 
 /// The fate of a cone that is neither low nor closed nor dropped: it is at the limit, a child does not fit, or it is split.
+#[inline(always)]
 fn undecided_fate<C: ConeRead>(mode: Mode, c: &C, limit: u8, word: u64) -> Fate
     requires fits { IsWithinLimits (C.cone c.now) }
     requires below_code { word ≤ shown_code mode (C.cone c.now) }
@@ -59,6 +61,7 @@ fn which_low<C: ConeRead>(mode: Mode, c: &C) -> u8
 }
 
 /// The fate of a cone whose least value is this.
+#[inline(always)]
 fn fate_of<C: ConeRead>(mode: Mode, c: &C, limit: u8, word: u64, least: i128) -> Fate
     requires below_code { word ≤ shown_code mode (C.cone c.now) }
     requires limited { limit ≤ 200 }
@@ -122,45 +125,57 @@ pub fn judgement<C: ConeRead>(mode: Mode, c: &C, limit: u8, word: u64) -> Judged
     judgement_of(mode, c, limit, word, least_value(c))
 }
 
-/// The judgement of a cone, with a limit of depth, under a word that first falls to the cone's code if that is less.
-pub fn lowering_judgement<C: ConeRead>(mode: Mode, c: &C, limit: u8, word: &mut u64) -> Judged
+/// The fate of a cone, with a limit of depth, under a word that first falls to the cone's code if that is less.
+#[inline(always)]
+pub fn lowering_fate<C: ConeRead>(mode: Mode, c: &C, limit: u8, word: &mut u64) -> Fate
     requires limited { limit ≤ 200 }
     requires within { length (C.cone c.now).path ≤ limit }
     ensures word { word.new ≡ min word.old (shown_code mode (C.cone c.now)) }
-    ensures judged { IsJudgementOf mode (C.cone c.now) limit word.new result }
+    ensures fate { IsShownFate mode (C.cone c.now) limit word.new result }
 {
     let least = least_value(c);
     let lower = (*word).min(code_at(mode, c.path().len(), least));
     *word = lower;
-    judgement_of(mode, c, limit, lower, least)
+    fate_of(mode, c, limit, lower, least)
 }
 
-/// Whether an answer may look at a judgement that was made under this word: it is low, it is an end of the tree, or its
-/// least value is at most the word's bound.
-pub fn is_relevant(mode: Mode, j: &Judged, word: u64) -> bool
-    ensures { MatchBool result (IsRelevant mode word j.now) (IsIrrelevant mode word j.now) }
+/// Whether an answer may look at a judgement of this fate and this least value that was made under this word: it is low, it
+/// is an end of the tree, or its least value is at most the word's bound.
+#[inline(always)]
+fn is_relevant(mode: Mode, fate: &Fate, least: i128, word: u64) -> bool
+    ensures { MatchBool result (IsRelevantFate mode word fate.now least) (IsIrrelevantFate mode word fate.now least) }
 {
-    match j.fate {
+    match fate {
         Fate::Low { .. } | Fate::AtLimit { .. } | Fate::Wide { .. } => true,
         Fate::Closed { .. } | Fate::Split { .. } | Fate::Dropped { .. } => match mode {
             Mode::Sign => false,
-            Mode::Least => word >= 256 && j.least <= i128::from(bound_under(mode, word)),
+            Mode::Least => word >= 256 && least <= i128::from(bound_under(mode, word)),
         },
     }
 }
 
-/// Keeps a judgement that was made under this word, if an answer may look at it. After a refusal the list is as before.
-pub fn keep(judged: &mut Vec<Judged>, mode: Mode, j: Judged, word: u64) -> Result<(), AllocError>
-    ensures kept { OnOk result (IsKeptOrIrrelevant mode word j judged.old.items judged.new.items) }
-    ensures few { OnOk result ((¬ IsRelevant mode word j) → judged.new.items ≡ judged.old.items) }
+/// Keeps the judgement of a cone of this fate, made under this word, if an answer may look at it. After a refusal the list is
+/// as before.
+///
+/// The judgement is made only where it is kept.
+#[inline(always)]
+pub fn keep_fate<C: ConeRead>(
+    judged: &mut Vec<Judged>,
+    mode: Mode,
+    c: &C,
+    fate: &Fate,
+    word: u64,
+) -> Result<(), AllocError>
+    ensures kept { OnOk result (IsConeKept mode word (C.cone c.now) fate.now judged.old.items judged.new.items) }
+    ensures few { OnOk result ((¬ IsRelevantFate mode word fate.now (shown_least (C.cone c.now))) → judged.new.items ≡ judged.old.items) }
     ensures err { OnErr result (judged.new.items ≡ judged.old.items) }
 {
-    if is_relevant(mode, &j, word) {
-        // Field by field, since the prover makes no proof of a push of the whole.
+    let least = least_value(c);
+    if is_relevant(mode, fate, least, word) {
         judged.push(Judged {
-            path: j.path,
-            fate: j.fate,
-            least: j.least,
+            path: c.path(),
+            fate: *fate,
+            least,
         })?;
     }
     Ok(())

@@ -1,6 +1,6 @@
 //! What holds of fates and codes. Each call does nothing: its contract is the law.
 
-ghost use Rattle.search_core.specs.Theorems.{AtMostOneFate, FateIsOfThePath, CodeIsOfThePath, RunsAreFair};
+ghost use Rattle.search_core.specs.Theorems.{AtMostOneFate, FateIsOfThePath, CodeIsOfThePath, RunsAreFair, EveryRunIsFair};
 
 /// A cone has at most one fate under a word, with a limit.
 pub fn at_most_one_fate()
@@ -21,4 +21,10 @@ pub fn code_is_of_the_path()
 /// whatever order, ends with a fair list of judgements and its final word.
 pub fn runs_are_fair()
     ensures { RunsAreFair }
+{}
+
+/// Whatever list of events a new machine of any number of workers is told: once nothing waits and nothing is in hand, its
+/// judgements are fair, and its word is their final word.
+pub fn every_run_is_fair()
+    ensures { EveryRunIsFair }
 {}

@@ -4,20 +4,30 @@
 mod answer;
 mod attaining;
 mod descent;
+mod event;
 mod fate;
+mod hand;
 mod judging;
 mod law;
+mod machine;
+#[cfg(test)]
+mod machine_tests;
 mod scan;
 mod searcher;
 mod settling;
 #[cfg(test)]
 mod tests;
+mod way;
 mod words;
 
 pub use answer::{Least, Sign};
+pub use event::{Event, Stepped};
 pub use fate::{Fate, Judged};
-pub use judging::{is_relevant, judge, judgement, keep, lowering_judgement};
-pub use law::{at_most_one_fate, code_is_of_the_path, fate_is_of_the_path, runs_are_fair};
+pub use judging::{judge, judgement, keep_fate, lowering_fate};
+pub use law::{
+    at_most_one_fate, code_is_of_the_path, every_run_is_fair, fate_is_of_the_path, runs_are_fair,
+};
+pub use machine::Machine;
 pub use searcher::Searcher;
 pub use settling::{settle_least, settle_least_part, settle_sign, settle_sign_part};
 pub use unimodular_cone::Mode;

@@ -21,7 +21,7 @@ use Rattle.search_core.specs.Judging.{shown_code, IsShownFate, IsJudgementOf}
 use Rattle.search_core.specs.Machine.{IsKept}
 use Rattle.search_core.proofs.ShownFates.{shown_code_at, shown_least_at, fate_at}
 use Rattle.search_core.proofs.Serial.{alone, alone_start, alone_end, stacked, stack_turn}
-use Rattle.serial_search.specs.Turns.{IsOnTop, SplitsAt, AreStacked}
+use Rattle.serial_search.specs.Turns.{IsOnTop, AreStacked}
 
 abbrev pub path_of : ShownCone → Path
 path_of c = c.path
@@ -220,20 +220,6 @@ module _ (m : Mode) (n : ℕ) (q : Matrix) (d : ℕ) (stack front new : List Sho
     has = has_more keeps;
     cones = new_cones j.fate judged.fate stacks;
   }
-
-  pub splits_at : d ≤ 200 → SplitsAt cone j.fate
-  splits_at small = by j.fate judged.fate
-    where
-      by : (f : Fate) → IsShownFate m cone d (min word (shown_code m cone)) f → SplitsAt cone f
-      by (Split a b w) (e, u, ne, pair, fits) = (pair, fits, less (length cone.path) d (h.cones cone on_top).1 ne small)
-        where
-          less : (x y : ℕ) → x ≤ y → x ≢ y → y ≤ 200 → x < 200
-          less x y le ne bound = grind arith
-      by (Closed w) g = tt
-      by (Low k) g = tt
-      by (Dropped w) g = tt
-      by (AtLimit w) g = tt
-      by (Wide w a) g = tt
 
   -- ---- it falls
   pub fewer_left : cones_left d new < cones_left d stack

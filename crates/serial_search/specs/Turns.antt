@@ -1,30 +1,19 @@
--- One turn of a search with a stack of cones, the last one on top.
+-- One turn of a search with a list of cones, the last one on top.
 --
---     IsOnTop c rest stack        the stack is c on top of the rest
---     IsSplitPair c i j           (i, j) is the pair of c, both children fit, and c is above depth 200
---     SplitsAt c fate             where the fate is Split: c can split so
 --     AreChildrenOn c i j rest new   new is the rest with the two children of c on top, child 0 last
 --     AreStacked c fate rest new  new is the rest, with the children of a Split on top, child 0 last
---     CanSplitTop, TopSplits      the same of the cone on top of a stack
---     IsTopSplit, IsTopTurned     the same where the old stack is the rest and c on top
-use Rattle.std.specs.Prelude.{ℕ, ◌≡◌, ◌<◌, ◌-◌, true, false, List, [], ◌∷◌, ◌++◌, length, Some}
-use Rattle.unimodular_cone.specs.Shown.{ShownCone, NamesPair, FitsOnBothSides, IsChild}
+--     MayTurn a fate              where the fate is Split: the top of the arena may be split so, and both its children fit
+--     IsTurnOf a fate b           b is a with the children of a Split in the place of its top, or without its top
+--     IsRootAlone q cones         the cones are the root's of the matrix alone
+--
+-- The top of a list is that of the arena.
+use Rattle.std.specs.Prelude.{ℕ, ◌≡◌, ◌-◌, true, false, List, [], ◌∷◌, ◌++◌}
+use Rattle.symmetric_matrix.specs.Symmetric.{Symmetric, entry}
+use Rattle.unimodular_cone.specs.Shown.{ShownCone, IsChild, IsConeAt}
+pub use Rattle.cone_arena.specs.Arena.{IsOnTop}
+use Rattle.cone_arena.specs.Arena.{ShownArena, MaySplit, TopFits}
 use Rattle.search_core.specs.declared.Fate.{Fate}
 use Rattle.search_core.specs.declared.Fate.TheVariants.{Closed, Split, Low, Dropped, AtLimit, Wide}
-
-abbrev pub IsOnTop : ShownCone → List ShownCone → List ShownCone → Type 0
-IsOnTop c rest stack = stack ≡ rest ++ c ∷ []
-
-abbrev pub IsSplitPair : ShownCone → ℕ → ℕ → Type 0
-IsSplitPair c i j = NamesPair c (Some (i, j)) × FitsOnBothSides c (i - 1) (j - 1) × (length c.path < 200)
-
-abbrev pub SplitsAt : ShownCone → Fate → Type 0
-SplitsAt c (Split i j w) = IsSplitPair c i j
-SplitsAt c (Closed w) = Unit {0}
-SplitsAt c (Low k) = Unit {0}
-SplitsAt c (Dropped w) = Unit {0}
-SplitsAt c (AtLimit w) = Unit {0}
-SplitsAt c (Wide w at) = Unit {0}
 
 pub record AreChildrenOn (c : ShownCone) (i j : ℕ) (rest new : List ShownCone) : Type 0 where
   pub second : ShownCone
@@ -41,15 +30,20 @@ AreStacked c (Dropped w) rest new = new ≡ rest
 AreStacked c (AtLimit w) rest new = new ≡ rest
 AreStacked c (Wide w at) rest new = new ≡ rest
 
--- ---- the cone on top of a stack
-abbrev pub CanSplitTop : List ShownCone → ℕ → ℕ → Type 0
-CanSplitTop stack i j = (c : ShownCone) (rest : List ShownCone) → IsOnTop c rest stack → IsSplitPair c i j
+abbrev pub MayTurn : ShownArena → Fate → Type 0
+MayTurn a (Split i j w) = MaySplit a i j × TopFits a i j
+MayTurn a (Closed w) = Unit {0}
+MayTurn a (Low k) = Unit {0}
+MayTurn a (Dropped w) = Unit {0}
+MayTurn a (AtLimit w) = Unit {0}
+MayTurn a (Wide w at) = Unit {0}
 
-abbrev pub TopSplits : Fate → List ShownCone → Type 0
-TopSplits fate stack = (c : ShownCone) (rest : List ShownCone) → IsOnTop c rest stack → SplitsAt c fate
+pub record IsTurnOf (a : ShownArena) (fate : Fate) (b : ShownArena) : Type 0 where
+  pub size : b.size ≡ a.size
+  pub depth : b.depth ≡ a.depth
+  pub turned : (c : ShownCone) (rest : List ShownCone) → IsOnTop c rest a.cones → AreStacked c fate rest b.cones
 
-abbrev pub IsTopSplit : List ShownCone → ℕ → ℕ → List ShownCone → Type 0
-IsTopSplit old i j new = (c : ShownCone) (rest : List ShownCone) → IsOnTop c rest old → AreChildrenOn c (i - 1) (j - 1) rest new
-
-abbrev pub IsTopTurned : Fate → List ShownCone → List ShownCone → Type 0
-IsTopTurned fate old new = (c : ShownCone) (rest : List ShownCone) → IsOnTop c rest old → AreStacked c fate rest new
+pub record IsRootAlone (q : Symmetric) (cones : List ShownCone) : Type 0 where
+  pub root : ShownCone
+  pub is_root : IsConeAt q.size (entry q) [] root
+  pub alone : cones ≡ root ∷ []

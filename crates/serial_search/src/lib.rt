@@ -8,4 +8,4 @@ mod searcher;
 #[cfg(test)]
 mod tests;
 
-pub use searcher::SerialSearcher;
+pub use searcher::{SerialSearcher, bound_wide};

@@ -1,43 +1,45 @@
 //! The plain search, which keeps every judgement. It is the definition's own, and tests run it beside the other.
 
-ghost use Rattle.std.specs.Prelude.{◌≤◌, [], IfOk};
+ghost use Rattle.std.specs.Prelude.{◌≡◌, ◌≤◌, [], IfOk};
 ghost use Rattle.symmetric_matrix.specs.Symmetric.{entry};
 ghost use Rattle.unimodular_cone.specs.Answer.{BoundFits};
-ghost use Rattle.unimodular_cone.specs.Shown.{IsConeAt};
 ghost use Rattle.search_core.specs.Fair.{IsFair};
+ghost use Rattle.serial_search.specs.Turns.{IsRootAlone};
 
 use crate::search::{Judgements, turn};
 use crate::searcher::bound_wide;
+use cone_arena::ConeArena;
 use search_core::{Least, Sign, code, judgement, settle_least, settle_sign, start_word};
 use std::alloc::{AllocError, Global};
 use symmetric_matrix::SymInt;
-use unimodular_cone::{Cone, Mode, root};
+use unimodular_cone::Mode;
 
-/// Every judgement of a search from the root of a matrix, the last one first, and the final word.
+/// Every judgement of a search from the root of a matrix, which stands alone in an arena that was made for the limit, the last
+/// one first, and the final word.
 fn every_judgement(
     alloc: Global,
     mode: Mode,
     q: &SymInt,
     limit: u8,
-    root: Cone,
+    arena: &mut ConeArena,
 ) -> Result<Judgements, AllocError>
     requires limited { limit ≤ 200 }
-    requires root { IsConeAt q.now.size (entry q.now) [] root }
     requires bound_fits { BoundFits mode q.now.size (entry q.now) }
+    requires room { limit ≤ arena.old.depth }
+    requires root { IsRootAlone q.now arena.old.cones }
     ensures { IfOk result (λ r. IsFair mode q.now.size (entry q.now) limit r.judged.items r.final_word) }
 {
     let _n = q.n();
-    let mut stack = Vec::new(alloc);
-    stack.push(root)?;
     let mut judged = Vec::new(alloc);
     let mut word = start_word(mode, q);
-    while let Some(cone) = stack.last() {
-        let lower = word.min(code(mode, cone));
-        let j = judgement(mode, cone, limit, lower);
+    while arena.len() > 0 {
+        let cone = arena.top();
+        let lower = word.min(code(mode, &cone));
+        let j = judgement(mode, &cone, limit, lower);
         let fate = j.fate;
         word = lower;
         judged.insert(0, j)?;
-        turn(&mut stack, &fate)?;
+        turn(arena, &fate);
     }
     Ok(Judgements {
         judged,
@@ -51,17 +53,23 @@ pub fn plain_least(alloc: Global, q: &SymInt, limit: u8) -> Option<Least>
 {
     match bound_wide(q) {
         Some(_) => None,
-        None => least_of_all(alloc, q, limit),
+        None => match ConeArena::with_cones(alloc, q.n(), limit) {
+            Ok(arena) => least_of_all(alloc, q, limit, arena),
+            Err(_) => None,
+        },
     }
 }
 
-/// The same of a matrix whose least diagonal entry is at most 2^63 - 1.
-fn least_of_all(alloc: Global, q: &SymInt, limit: u8) -> Option<Least>
+/// The same of a matrix whose least diagonal entry is at most 2^63 - 1, over an empty arena.
+fn least_of_all(alloc: Global, q: &SymInt, limit: u8, mut arena: ConeArena) -> Option<Least>
     requires limited { limit ≤ 200 }
     requires bound_fits { BoundFits Mode.Least q.now.size (entry q.now) }
+    requires size { arena.size ≡ q.now.size }
+    requires room { limit ≤ arena.depth }
+    requires empty { arena.cones ≡ [] }
 {
-    match root(q) {
-        Ok(cone) => match every_judgement(alloc, Mode::Least, q, limit, cone) {
+    match arena.push_root(q) {
+        Ok(()) => match every_judgement(alloc, Mode::Least, q, limit, &mut arena) {
             Ok(all) => Some(settle_least(alloc, q, limit, &all.judged, all.final_word)),
             Err(_) => None,
         },
@@ -73,8 +81,21 @@ fn least_of_all(alloc: Global, q: &SymInt, limit: u8) -> Option<Least>
 pub fn plain_sign(alloc: Global, q: &SymInt, limit: u8) -> Option<Sign>
     requires { limit ≤ 200 }
 {
-    match root(q) {
-        Ok(cone) => match every_judgement(alloc, Mode::Sign, q, limit, cone) {
+    match ConeArena::with_cones(alloc, q.n(), limit) {
+        Ok(arena) => sign_of_all(alloc, q, limit, arena),
+        Err(_) => None,
+    }
+}
+
+/// The same, over an empty arena.
+fn sign_of_all(alloc: Global, q: &SymInt, limit: u8, mut arena: ConeArena) -> Option<Sign>
+    requires limited { limit ≤ 200 }
+    requires size { arena.size ≡ q.now.size }
+    requires room { limit ≤ arena.depth }
+    requires empty { arena.cones ≡ [] }
+{
+    match arena.push_root(q) {
+        Ok(()) => match every_judgement(alloc, Mode::Sign, q, limit, &mut arena) {
             Ok(all) => Some(settle_sign(alloc, q, limit, &all.judged, all.final_word)),
             Err(_) => None,
         },

@@ -1,16 +1,16 @@
 //! The searcher on one thread.
 
-ghost use Rattle.std.specs.Prelude.{◌≡◌, ◌≢◌, ◌≤◌, ◌<◌, ◌^◌, ◌-◌, ◌<ℤ◌, pos, MatchOption};
+ghost use Rattle.std.specs.Prelude.{◌≡◌, ◌≤◌, ◌<◌, ◌^◌, ◌-◌, ◌<ℤ◌, [], pos, MatchOption};
 ghost use Rattle.symmetric_matrix.specs.Symmetric.{entry};
 ghost use Rattle.unimodular_cone.specs.Answer.{BoundFits, IsLeastDiagonal};
-ghost use Rattle.unimodular_cone.specs.declared.ConeFail.TheVariants.{Wide, OutOfMemory};
 ghost use Rattle.search_core.specs.Answers.{IsLeastAnswer, IsSignAnswer};
 
 use crate::search::search;
+use cone_arena::ConeArena;
 use search_core::{Least, Searcher, Sign, least_diagonal, settle_least_part, settle_sign_part};
 use std::alloc::Global;
 use symmetric_matrix::SymInt;
-use unimodular_cone::{ConeFail, Mode, WideAt, root};
+use unimodular_cone::Mode;
 
 /// A searcher on one thread: depth first, child 0 before child 1, under the falling word. It always returns.
 #[derive(Drop)]
@@ -39,7 +39,7 @@ impl Searcher for SerialSearcher {
 }
 
 /// The least diagonal entry, where it is over 2^63 - 1.
-pub(crate) fn bound_wide(q: &SymInt) -> Option<i128>
+pub fn bound_wide(q: &SymInt) -> Option<i128>
     ensures { MatchOption result (BoundFits Mode.Least q.now.size (entry q.now)) (λ z. IsLeastDiagonal q.now.size (entry q.now) z × (pos (2 ^ 63 - 1) <ℤ z)) }
 {
     let least = least_diagonal(q);
@@ -50,28 +50,30 @@ pub(crate) fn bound_wide(q: &SymInt) -> Option<i128>
     }
 }
 
-/// The entry over its limit that a refusal names.
-fn wide_entry(fail: ConeFail) -> WideAt
-    requires { fail ≢ OutOfMemory }
-    ensures { fail ≡ Wide result }
-{
-    match fail {
-        ConeFail::Wide(at) => at,
-        ConeFail::OutOfMemory => unreachable!(),
-    }
-}
-
 /// The least value of a matrix whose least diagonal entry is at most 2^63 - 1.
 fn least_within(alloc: Global, q: &SymInt, limit: u8) -> Least
     requires limited { limit ≤ 200 }
     requires bound_fits { BoundFits Mode.Least q.now.size (entry q.now) }
     ensures { IsLeastAnswer q.now.size (entry q.now) limit result }
 {
-    match root(q) {
-        Err(fail) => Least::Wide {
-            at: wide_entry(fail),
-        },
-        Ok(cone) => match search(alloc, Mode::Least, q, limit, cone) {
+    match ConeArena::with_cones(alloc, q.n(), limit) {
+        Err(_) => Least::OutOfMemory,
+        Ok(arena) => least_over(alloc, q, limit, arena),
+    }
+}
+
+/// The same, over an empty arena.
+fn least_over(alloc: Global, q: &SymInt, limit: u8, mut arena: ConeArena) -> Least
+    requires limited { limit ≤ 200 }
+    requires bound_fits { BoundFits Mode.Least q.now.size (entry q.now) }
+    requires size { arena.size ≡ q.now.size }
+    requires room { limit ≤ arena.depth }
+    requires empty { arena.cones ≡ [] }
+    ensures { IsLeastAnswer q.now.size (entry q.now) limit result }
+{
+    match arena.push_root(q) {
+        Err(at) => Least::Wide { at },
+        Ok(()) => match search(alloc, Mode::Least, q, limit, &mut arena) {
             Ok(found) => settle_least_part(alloc, q, limit, &found.judged, found.final_word),
             Err(_) => Least::OutOfMemory,
         },
@@ -83,11 +85,23 @@ fn sign_within(alloc: Global, q: &SymInt, limit: u8) -> Sign
     requires { limit ≤ 200 }
     ensures { IsSignAnswer q.now.size (entry q.now) limit result }
 {
-    match root(q) {
-        Err(fail) => Sign::Wide {
-            at: wide_entry(fail),
-        },
-        Ok(cone) => match search(alloc, Mode::Sign, q, limit, cone) {
+    match ConeArena::with_cones(alloc, q.n(), limit) {
+        Err(_) => Sign::OutOfMemory,
+        Ok(arena) => sign_over(alloc, q, limit, arena),
+    }
+}
+
+/// The same, over an empty arena.
+fn sign_over(alloc: Global, q: &SymInt, limit: u8, mut arena: ConeArena) -> Sign
+    requires limited { limit ≤ 200 }
+    requires size { arena.size ≡ q.now.size }
+    requires room { limit ≤ arena.depth }
+    requires empty { arena.cones ≡ [] }
+    ensures { IsSignAnswer q.now.size (entry q.now) limit result }
+{
+    match arena.push_root(q) {
+        Err(at) => Sign::Wide { at },
+        Ok(()) => match search(alloc, Mode::Sign, q, limit, &mut arena) {
             Ok(found) => settle_sign_part(alloc, q, limit, &found.judged, found.final_word),
             Err(_) => Sign::OutOfMemory,
         },

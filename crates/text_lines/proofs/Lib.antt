@@ -7,7 +7,9 @@ pub mod Cuts
 pub mod Numerals
 pub mod FractionWords
 pub mod FractionTexts
+pub mod Digits
 pub mod PlainLines
+pub mod SkippedLines
 pub mod ReadValues
 pub mod Squares
 pub mod Mirrors

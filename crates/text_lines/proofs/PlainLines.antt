@@ -1,10 +1,10 @@
 -- Lines of plain words, with one space between them: they are cut again as they were written.
-use Rattle.std.proofs.Common.{◌≡◌, ℕ, suc, ◌+◌, ◌<◌, true, false, ltb, eqb, List, [], ◌∷◌, ◌++◌, length, map, Result, refl, sym, ap, ◌∙◌, arith}
+use Rattle.std.proofs.Common.{◌≡◌, ℕ, ◌+◌, ◌<◌, true, false, ltb, List, [], ◌∷◌, ◌++◌, length, map, Result, refl, ap, ◌∙◌, arith}
 use Rattle.std.specs.List.{All, AllByRecursion, join_with_byte, flat_map}
 use Rattle.std.proofs.lemmas.Bool.{ne_eqb}
 use Rattle.std.proofs.lemmas.List.Sums.{list_all-from_AllPass}
 use Rattle.std.proofs.lemmas.List.Elements.{All-append, All-cons, All-nil, All-weaker}
-use Rattle.text_lines.specs.Lines.{is_blank, is_line_feed, words, are_skipped, content_from, content_lines, end_line, lines, TextLine}
+use Rattle.text_lines.specs.Lines.{is_blank, is_line_feed, words, are_skipped, content_from, content_lines, lines, TextLine}
 use Rattle.text_lines.specs.Spelling.{line_of_words}
 use Rattle.text_lines.specs.Readings.{is_ascii, at_line, in_line}
 use Rattle.text_lines.proofs.Cuts.{IsWord, words-join, IsLine, lines-ended}
@@ -26,7 +26,7 @@ is_word w h =
       clear = All-weaker IsPlain (λ b. is_blank b ≡ false) (λ b p. p.blank) w h.plain;
     }
 
-are_words : (ws : List (List ℕ)) → AllByRecursion IsPlainWord ws → AllByRecursion IsWord ws
+pub are_words : (ws : List (List ℕ)) → AllByRecursion IsPlainWord ws → AllByRecursion IsWord ws
 are_words [] h = tt
 are_words (w ∷ ws) h = (is_word w h.0, are_words ws h.1)
 
@@ -58,18 +58,18 @@ abbrev pub numbered : ℕ → List (List (List ℕ)) → List TextLine
 numbered k [] = []
 numbered k (ws ∷ more) = record { number = k; bytes = joined ws } ∷ numbered (k + 1) more
 
+pub lines-joined : (text : List (List (List ℕ))) → flat_map line_of_words text ≡ flat_map (λ l. l ++ 10 ∷ []) (map joined text)
+lines-joined [] = refl
+lines-joined (ws ∷ text) = ap (λ (t : List ℕ). line_of_words ws ++ t) (lines-joined text)
+
+pub each-line : (text : List (List (List ℕ))) → AllByRecursion IsPlainLine text → AllByRecursion IsLine (map joined text)
+each-line [] h = tt
+each-line (ws ∷ text) h = (All-joined (λ b. is_line_feed b ≡ false) refl (λ b p. p.line_feed) ws h.0.plain, each-line text h.1)
+
 text-lines : (text : List (List (List ℕ))) → AllByRecursion IsPlainLine text → lines (flat_map line_of_words text) ≡ map joined text
-text-lines text h = ap lines (each text) ∙ lines-ended (map joined text) (line_by_line text h)
-  where
-    each : (text : List (List (List ℕ))) → flat_map line_of_words text ≡ flat_map (λ l. l ++ 10 ∷ []) (map joined text)
-    each [] = refl
-    each (ws ∷ text) = ap (λ (t : List ℕ). line_of_words ws ++ t) (each text)
+text-lines text h = ap lines (lines-joined text) ∙ lines-ended (map joined text) (each-line text h)
 
-    line_by_line : (text : List (List (List ℕ))) → AllByRecursion IsPlainLine text → AllByRecursion IsLine (map joined text)
-    line_by_line [] h = tt
-    line_by_line (ws ∷ text) h = (All-joined (λ b. is_line_feed b ≡ false) refl (λ b p. p.line_feed) ws h.0.plain, line_by_line text h.1)
-
-content-numbered : (k : ℕ) (text : List (List (List ℕ))) → AllByRecursion IsPlainLine text → content_from k (map joined text) ≡ numbered k text
+pub content-numbered : (k : ℕ) (text : List (List (List ℕ))) → AllByRecursion IsPlainLine text → content_from k (map joined text) ≡ numbered k text
 unfolding content_from
 content-numbered k [] h = refl
 content-numbered k (ws ∷ text) h = rw (kept-joined ws h.0) (ap (λ (more : List TextLine). record { number = k; bytes = joined ws } ∷ more) (content-numbered (k + 1) text h.1))

@@ -5,3 +5,4 @@ pub mod Square
 pub mod Readings
 pub mod Fractions
 pub mod Spelling
+pub mod Skipped

@@ -1,7 +1,8 @@
 //! Numbers as they are written. A call that is refused for want of memory may have written a part.
 
-ghost use Rattle.std.specs.Prelude.{◌≡◌, ◌++◌, OnOk};
+ghost use Rattle.std.specs.Prelude.{◌≡◌, ◌++◌, pos, OnOk};
 ghost use Rattle.std.specs.Fmt.{signed_decimal};
+ghost use Rattle.symmetric_matrix.specs.Symmetric.{FitsInt};
 ghost use Rattle.text_lines.specs.Spelling.{Extends, quotient_word, fraction_word};
 
 use fraction128::Fraction;
@@ -21,6 +22,8 @@ pub fn push_number(into: &mut Vec<u8>, number: i128) -> Result<(), AllocError>
 pub fn push_quotient(into: &mut Vec<u8>, fraction: Fraction) -> Result<(), AllocError>
     ensures ok { OnOk result (into.new.items ≡ into.old.items ++ quotient_word fraction) }
     ensures kept { Extends into.old.items into.new.items }
+    ensures num { OnOk result (FitsInt fraction.num) }
+    ensures den { OnOk result (FitsInt (pos fraction.den)) }
 {
     push_number(into, fraction.num())?;
     into.push(b'/')?;

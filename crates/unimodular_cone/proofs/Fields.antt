@@ -52,7 +52,7 @@ gram_placed c i j li lj = by (order i j)
         let b : min i j ≡ i = omega arith in
         rw (a, b) (sym (gram_shown c j i (omega arith) lj) ∙ shown_gram_mirror (shown_of c) j i)
 
-triangle_8 : triangle 8 ≡ 36
+pub triangle_8 : triangle 8 ≡ 36
 unfolding triangle
 triangle_8 = refl
 

@@ -24,3 +24,4 @@ pub mod ShownAt
 pub mod RootCopies
 pub mod Roots
 pub mod Ways
+pub mod Copies

@@ -11,3 +11,4 @@ pub mod RootNumbers
 pub mod Mediant
 pub mod Shown
 pub mod Theorems
+pub mod Copies

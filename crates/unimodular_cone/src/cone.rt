@@ -1,7 +1,9 @@
 //! Cones that keep their numbers inline.
 
 ghost use Rattle.std.specs.Prelude.{◌≡◌, ◌≢◌, ◌≤◌, ◌<◌, ◌-◌, [], ◌∷◌, ◌++◌, true, false, length, nat_eq, None, IfOk, IfErr};
+ghost use Rattle.exact_forms.specs.Triangles.{triangle};
 ghost use Rattle.symmetric_matrix.specs.Symmetric.{entry};
+ghost use Rattle.unimodular_cone.specs.Copies.{IsCopiedTo, AreRowsCopied};
 ghost use Rattle.unimodular_cone.specs.Mediant.{FitsWith, IsMediantOf, AreProducts};
 ghost use Rattle.unimodular_cone.specs.Shown.{FitsOnSide, FitsOnBothSides, shown_gram, IsWithinLimits, IsConeAt, IsChild, IsFirstWide, IsFirstWideAt, IsReachable, IsWideWhere, NamesPair, ReachesChild, IsExactChild, ShowsChild, IsNext, IsFirstWideNext};
 ghost use Rattle.unimodular_cone.specs.Replacement.{IsChildWith, IsFirstWideWith, IsRowSet};
@@ -56,13 +58,66 @@ impl Cone {
         ensures exact_zero { IsExactChild self.old (i - 1) (j - 1) false result }
         ensures exact_one { IsExactChild self.old (i - 1) (j - 1) true self.new }
     {
-        let (r, s) = (i - 1, j - 1);
-        let coordinates = mediant_coordinates(self, r, s);
-        let products = products(self, r, s, self.n);
         let mut zero = self.copy();
-        zero.put(&coordinates, &products, r, s, 0);
-        self.put(&coordinates, &products, s, r, 1);
+        self.split_into(&mut zero, i, j);
         zero
+    }
+
+    /// Splits the cone on the sides of the generators i and j, which count from 1, as `split` does: it becomes its child 1, and
+    /// `above` becomes its child 0, whatever it was before.
+    ///
+    /// Only the numbers that count are written, and no memory is taken.
+    pub fn split_into(&mut self, above: &mut Cone, i: u8, j: u8)
+        requires first { 1 ≤ i }
+        requires order { i < j }
+        requires last { j ≤ self.old.size }
+        requires room { length self.old.path < 200 }
+        requires fits { FitsOnBothSides self.old (i - 1) (j - 1) }
+        ensures zero { IsChild self.old (i - 1) (j - 1) false above.new }
+        ensures one { IsChild self.old (i - 1) (j - 1) true self.new }
+        ensures exact_zero { IsExactChild self.old (i - 1) (j - 1) false above.new }
+        ensures exact_one { IsExactChild self.old (i - 1) (j - 1) true self.new }
+    {
+        let (r, s) = (i - 1, j - 1);
+        match self.n {
+            3 => self.split_sized(above, r, s, 3),
+            4 => self.split_sized(above, r, s, 4),
+            5 => self.split_sized(above, r, s, 5),
+            6 => self.split_sized(above, r, s, 6),
+            n => self.split_sized(above, r, s, n),
+        }
+    }
+
+    /// The same of a cone of n generators, on the sides of r and s, which count from 0.
+    #[inline(always)]
+    fn split_sized(&mut self, above: &mut Cone, r: u8, s: u8, n: u8)
+        requires within { IsWithinLimits self.old }
+        requires size { n ≡ self.old.size }
+        requires order { r < s }
+        requires last { s < n }
+        requires room { length self.old.path < 200 }
+        requires fits { FitsOnBothSides self.old r s }
+        ensures zero { IsChild self.old r s false above.new }
+        ensures one { IsChild self.old r s true self.new }
+        ensures exact_zero { IsExactChild self.old r s false above.new }
+        ensures exact_one { IsExactChild self.old r s true self.new }
+    {
+        let coordinates = mediant_coordinates(self, r, s, n);
+        let products = products(self, r, s, n);
+        above.become_copy(self);
+        above.put(&coordinates, &products, r, s, 0);
+        self.put(&coordinates, &products, s, r, 1);
+    }
+
+    /// Becomes the same cone as another.
+    #[inline(always)]
+    fn become_copy(&mut self, other: &Cone)
+        ensures { self.new ≡ other.now }
+    {
+        self.n = other.n;
+        self.path = other.path;
+        copy_lower(&mut self.gram, &other.gram, other.n);
+        copy_rows(&mut self.generators, &other.generators, other.n);
     }
 
     /// Goes down to the child on a side of the generators i and j, which count from 1: child 0 has v_i + v_j in the place of
@@ -87,6 +142,7 @@ impl Cone {
     }
 
     /// A Gram entry, in either triangle, at a row and a column that count from 0.
+    #[inline(always)]
     fn entry(&self, row: u8, column: u8) -> i128
         requires row_in_range { row < self.now.size }
         requires column_in_range { column < self.now.size }
@@ -97,7 +153,7 @@ impl Cone {
     }
 
     /// The same cone again.
-    fn copy(&self) -> Cone
+    pub fn copy(&self) -> Cone
         ensures { result ≡ self.now }
     {
         Cone {
@@ -118,12 +174,13 @@ impl Cone {
         requires fits { FitsWith self.old r s }
         ensures { IsChildWith self.old r s (self.old.path ++ nat_eq side 1 ∷ []) self.new }
     {
-        let coordinates = mediant_coordinates(self, r, s);
+        let coordinates = mediant_coordinates(self, r, s, self.n);
         let products = products(self, r, s, self.n);
         self.put(&coordinates, &products, r, s, side);
     }
 
     /// The same, with the mediant's coordinates and its products with the generators.
+    #[inline(always)]
     fn put(&mut self, coordinates: &[u64; 8], products: &[i128; 8], r: u8, s: u8, side: u8)
         requires first { r < self.old.size }
         requires second { s < self.old.size }
@@ -153,10 +210,12 @@ impl ConeRead for Cone {
         self.path
     }
 
+    #[inline(always)]
     fn gram(&self, row: u8, column: u8) -> i128 {
         self.entry(row - 1, column - 1)
     }
 
+    #[inline(always)]
     fn coordinate(&self, generator: u8, place: u8) -> u64 {
         self.generators[usize::from(generator - 1)][usize::from(place - 1)]
     }
@@ -261,7 +320,7 @@ fn child_with(c: &Cone, r: u8, s: u8, path: Path) -> Result<Cone, ConeFail>
     ensures fits { IfOk result IsWithinLimits }
     ensures wide { IfErr result (IsWideWhere (IsFirstWideWith c.now r s path)) }
 {
-    let coordinates = mediant_coordinates(c, r, s);
+    let coordinates = mediant_coordinates(c, r, s, c.n);
     let row = mediant_row(c, r, s);
     if let Some(entry) = first_wide(c, &coordinates, &row, r, s) {
         return Err(ConeFail::Wide(WideAt { path, entry }));
@@ -278,6 +337,7 @@ fn child_with(c: &Cone, r: u8, s: u8, path: Path) -> Result<Cone, ConeFail>
 }
 
 /// Writes row and column r of a lower triangle of n rows, counted from 0.
+#[inline(always)]
 fn set_row(gram: &mut [i128; 36], row: &[i128; 8], r: u8, n: u8)
     requires range { r < n }
     requires few { n ≤ 8 }
@@ -285,5 +345,42 @@ fn set_row(gram: &mut [i128; 36], row: &[i128; 8], r: u8, n: u8)
 {
     for k in 0..n {
         gram[place_of(r, k)] = row[usize::from(k)];
+    }
+}
+
+/// Copies the entries of a lower triangle of n rows.
+#[inline(always)]
+fn copy_lower(into: &mut [i128; 36], from: &[i128; 36], n: u8)
+    requires few { n ≤ 8 }
+    ensures { IsCopiedTo (triangle n) from.now into.new }
+{
+    match n {
+        3 => copy_entries(into, from, 6),
+        4 => copy_entries(into, from, 10),
+        5 => copy_entries(into, from, 15),
+        6 => copy_entries(into, from, 21),
+        _ => copy_entries(into, from, 36),
+    }
+}
+
+/// Copies the first numbers.
+#[inline(always)]
+fn copy_entries(into: &mut [i128; 36], from: &[i128; 36], count: usize)
+    requires few { count ≤ 36 }
+    ensures { IsCopiedTo count from.now into.new }
+{
+    for k in 0..count {
+        into[k] = from[k];
+    }
+}
+
+/// Copies the first n rows of generators.
+#[inline(always)]
+fn copy_rows(into: &mut [[u64; 8]; 8], from: &[[u64; 8]; 8], n: u8)
+    requires few { n ≤ 8 }
+    ensures { AreRowsCopied n from.now into.new }
+{
+    for k in 0..n {
+        into[usize::from(k)] = from[usize::from(k)];
     }
 }

@@ -39,6 +39,7 @@ pub trait ConeRead {
 }
 
 /// The Gram entry at a row and a column that count from 0.
+#[inline(always)]
 pub fn entry<C: ConeRead>(c: &C, row: u8, column: u8) -> i128
     requires few { (C.cone c.now).size ≤ 8 }
     requires row_in_range { row < (C.cone c.now).size }

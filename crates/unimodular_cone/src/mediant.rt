@@ -8,6 +8,7 @@ use crate::cone_read::{ConeRead, entry};
 use crate::refusal::{WideAt, WideEntry};
 
 /// The coordinate of a generator at a place, which count from 0.
+#[inline(always)]
 fn coordinate_at<C: ConeRead>(c: &C, generator: u8, place: u8) -> u64
     requires few { (C.cone c.now).size ≤ 8 }
     requires generator_in_range { generator < (C.cone c.now).size }
@@ -18,12 +19,14 @@ fn coordinate_at<C: ConeRead>(c: &C, generator: u8, place: u8) -> u64
 }
 
 /// The coordinates of the mediant of two generators, which count from 0.
-pub fn mediant_coordinates<C: ConeRead>(c: &C, r: u8, s: u8) -> [u64; 8]
-    requires first { r < (C.cone c.now).size }
-    requires second { s < (C.cone c.now).size }
+#[inline(always)]
+pub fn mediant_coordinates<C: ConeRead>(c: &C, r: u8, s: u8, n: u8) -> [u64; 8]
+    requires fits { IsWithinLimits (C.cone c.now) }
+    requires size { n ≡ (C.cone c.now).size }
+    requires first { r < n }
+    requires second { s < n }
     ensures { IsMediantOf (C.cone c.now) r s result }
 {
-    let n = c.n();
     let mut sums = [0; 8];
     for p in 0..n {
         sums[usize::from(p)] = coordinate_at(c, r, p) + coordinate_at(c, s, p);
@@ -32,6 +35,7 @@ pub fn mediant_coordinates<C: ConeRead>(c: &C, r: u8, s: u8) -> [u64; 8]
 }
 
 /// The mediant's products with the generators, before it takes the place of one of them.
+#[inline(always)]
 pub fn products<C: ConeRead>(c: &C, r: u8, s: u8, n: u8) -> [i128; 8]
     requires fits { IsWithinLimits (C.cone c.now) }
     requires size { n ≡ (C.cone c.now).size }
@@ -71,6 +75,7 @@ pub fn mediant_row<C: ConeRead>(c: &C, r: u8, s: u8) -> [i128; 8]
 }
 
 /// The first of n coordinates that is over its limit.
+#[inline(always)]
 fn first_wide_coordinate(coordinates: &[u64; 8], n: u8) -> Option<u8>
     requires { n ≤ 8 }
     ensures { IsFirstBelow n (λ p. 2 ^ 62 < slice_index_or coordinates.now p 0) result }
@@ -84,6 +89,7 @@ fn first_wide_coordinate(coordinates: &[u64; 8], n: u8) -> Option<u8>
 }
 
 /// The first of n Gram entries that is over its limit.
+#[inline(always)]
 fn first_wide_product(row: &[i128; 8], n: u8) -> Option<u8>
     requires { n ≤ 8 }
     ensures { IsFirstBelow n (λ k. 2 ^ 100 < nat_abs (slice_index_or row.now k (pos 0))) result }
@@ -145,11 +151,11 @@ pub fn children_fit<C: ConeRead>(c: &C, i: u8, j: u8) -> Option<WideAt>
     ensures { MatchOption result (FitsOnBothSides (C.cone c.now) (i - 1) (j - 1)) (IsFirstWideBelow (C.cone c.now) (i - 1) (j - 1)) }
 {
     let (first, second) = (i - 1, j - 1);
-    let coordinates = mediant_coordinates(c, first, second);
-    let products = products(c, first, second, c.n());
-    if both_fit(c, &coordinates, &products, first, second) {
+    if both_fit(c, first, second) {
         return None;
     }
+    let coordinates = mediant_coordinates(c, first, second, c.n());
+    let products = products(c, first, second, c.n());
     if let Some(entry) = wide_on(c, &coordinates, &products, first, second) {
         return Some(WideAt {
             path: c.path().child(0),
@@ -165,8 +171,39 @@ pub fn children_fit<C: ConeRead>(c: &C, i: u8, j: u8) -> Option<WideAt>
     }
 }
 
-/// Whether no entry of either child is over its limit, with what the two share looked at once.
-fn both_fit<C: ConeRead>(c: &C, coordinates: &[u64; 8], products: &[i128; 8], r: u8, s: u8) -> bool
+/// Whether no entry of either child of a cone of n generators is over its limit, with what the two share looked at once.
+#[inline(always)]
+fn both_fit_of<C: ConeRead>(c: &C, n: u8, r: u8, s: u8) -> bool
+    requires fits { IsWithinLimits (C.cone c.now) }
+    requires size { n ≡ (C.cone c.now).size }
+    requires first { r < n }
+    requires second { s < n }
+    requires apart { r ≢ s }
+    ensures first { IsTrue result → FitsWith (C.cone c.now) r s }
+    ensures second { IsTrue result → FitsWith (C.cone c.now) s r }
+{
+    both_are_within(
+        c,
+        &mediant_coordinates(c, r, s, n),
+        &products(c, r, s, n),
+        n,
+        r,
+        s,
+    )
+}
+
+/// The same, with the mediant's coordinates and its products with the generators.
+#[inline(always)]
+fn both_are_within<C: ConeRead>(
+    c: &C,
+    coordinates: &[u64; 8],
+    products: &[i128; 8],
+    n: u8,
+    r: u8,
+    s: u8,
+) -> bool
+    requires fits { IsWithinLimits (C.cone c.now) }
+    requires size { n ≡ (C.cone c.now).size }
     requires first { r < (C.cone c.now).size }
     requires second { s < (C.cone c.now).size }
     requires apart { r ≢ s }
@@ -175,7 +212,6 @@ fn both_fit<C: ConeRead>(c: &C, coordinates: &[u64; 8], products: &[i128; 8], r:
     ensures first { IsTrue result → FitsWith (C.cone c.now) r s }
     ensures second { IsTrue result → FitsWith (C.cone c.now) s r }
 {
-    let n = c.n();
     let None = first_wide_coordinate(coordinates, n) else {
         return false;
     };
@@ -183,6 +219,26 @@ fn both_fit<C: ConeRead>(c: &C, coordinates: &[u64; 8], products: &[i128; 8], r:
         return false;
     };
     (products[usize::from(r)] + products[usize::from(s)]).unsigned_abs() <= 1 << 100
+}
+
+/// Whether no entry of either child is over its limit.
+fn both_fit<C: ConeRead>(c: &C, r: u8, s: u8) -> bool
+    requires first { r < (C.cone c.now).size }
+    requires second { s < (C.cone c.now).size }
+    requires apart { r ≢ s }
+    ensures first { IsTrue result → FitsWith (C.cone c.now) r s }
+    ensures second { IsTrue result → FitsWith (C.cone c.now) s r }
+{
+    match c.n() {
+        2 => both_fit_of(c, 2, r, s),
+        3 => both_fit_of(c, 3, r, s),
+        4 => both_fit_of(c, 4, r, s),
+        5 => both_fit_of(c, 5, r, s),
+        6 => both_fit_of(c, 6, r, s),
+        7 => both_fit_of(c, 7, r, s),
+        8 => both_fit_of(c, 8, r, s),
+        n => both_fit_of(c, n, r, s),
+    }
 }
 
 /// The first entry over its limit in the child in which the mediant of r and s takes the place of r.

@@ -18,6 +18,7 @@ struct Best {
 }
 
 /// The better of the best so far and one more entry, the earlier one among equals.
+#[inline(always)]
 fn better_of(best: Best, value: i128, row: u8, column: u8) -> Best
     ensures { result ≡ better_best best value row column }
 {
@@ -33,6 +34,7 @@ fn better_of(best: Best, value: i128, row: u8, column: u8) -> Best
 }
 
 /// The best of what came before and of the entries of a row beyond the diagonal.
+#[inline(always)]
 fn best_beyond<C: ConeRead>(c: &C, row: u8, n: u8, before: Best) -> Best
     requires fits { IsWithinLimits (C.cone c.now) }
     requires size { n ≡ (C.cone c.now).size }
@@ -48,12 +50,13 @@ fn best_beyond<C: ConeRead>(c: &C, row: u8, n: u8, before: Best) -> Best
     best
 }
 
-/// The pair of a cone: the least negative Gram entry at (i, j) with i < j; among equals the least i, then the least j.
-/// None exactly where no entry beside the diagonal is negative. It counts from 1.
-pub fn pair<C: ConeRead>(c: &C) -> Option<(u8, u8)>
+/// The pair of a cone of n generators. It counts from 1.
+#[inline(always)]
+fn pair_of<C: ConeRead>(c: &C, n: u8) -> Option<(u8, u8)>
+    requires fits { IsWithinLimits (C.cone c.now) }
+    requires size { n ≡ (C.cone c.now).size }
     ensures { NamesPair (C.cone c.now) result }
 {
-    let n = c.n();
     let mut best = Best {
         value: 0,
         row: 0,
@@ -66,5 +69,22 @@ pub fn pair<C: ConeRead>(c: &C) -> Option<(u8, u8)>
         Some((best.row as u8 + 1, best.column as u8 + 1))
     } else {
         None
+    }
+}
+
+/// The pair of a cone: the least negative Gram entry at (i, j) with i < j; among equals the least i, then the least j.
+/// None exactly where no entry beside the diagonal is negative. It counts from 1.
+pub fn pair<C: ConeRead>(c: &C) -> Option<(u8, u8)>
+    ensures { NamesPair (C.cone c.now) result }
+{
+    match c.n() {
+        2 => pair_of(c, 2),
+        3 => pair_of(c, 3),
+        4 => pair_of(c, 4),
+        5 => pair_of(c, 5),
+        6 => pair_of(c, 6),
+        7 => pair_of(c, 7),
+        8 => pair_of(c, 8),
+        n => pair_of(c, n),
     }
 }

@@ -16,6 +16,7 @@ static PLACES: [[u8; 8]; 8] = [
 ];
 
 /// Where the entry at a row and a column, which count from 0 and come in either order, stands in the lower triangle.
+#[inline(always)]
 pub fn place_of(row: u8, column: u8) -> usize
     requires row { row < 8 }
     requires column { column < 8 }

@@ -1,3 +1,4 @@
+use Rattle.std.proofs.Common.{arith}
 use Rattle.std.proofs.lemmas.Result.{on_ok_weaker}
 use Rattle.text_lines.proofs.Written.{Extends-then}
 use Rattle.cone_tree_certificate.proofs.WrittenLines.{factors_made}
@@ -8,3 +9,6 @@ returns-clause-ok c = on_ok_weaker c.push_terms.result (λ e. factors_made c.arg
 
 pub returns-clause-kept : goal.returns-clause-kept
 returns-clause-kept c = Extends-then c.args.into.now.items c.push_factored.new.into.items c.push_terms.new.into.items c.push_factored.ensures.kept c.push_terms.ensures.kept
+
+pub returns-clause-whole : goal.returns-clause-whole
+returns-clause-whole c = on_ok_weaker c.push_terms.result (λ e. (omega (arith, c.len.ensures), e)) c.push_terms.ensures.narrow

@@ -1,3 +1,4 @@
+use Rattle.std.proofs.Common.{arith}
 use Rattle.std.proofs.lemmas.Result.{on_ok_weaker}
 use Rattle.text_lines.proofs.Written.{Extends-then}
 use Rattle.cone_tree_certificate.proofs.WrittenLines.{separator_made}
@@ -16,3 +17,11 @@ pub returns-clause-ok : goal.returns-clause-ok
 returns-clause-ok c = on_ok_weaker c.push_tree.result (λ e.
     separator_made c.args.w.now c.args.value c.args.tree.now c.n.result c.len.result c.args.into.now.items c.push_heading.new.into.items c.push_rows.new.into.items c.push_value.new.into.items c.push_heading-2.new.into.items c.push_tree.new.into.items c.n.ensures.value c.len.ensures
     c.in_ok-push_heading.ensures.ok c.in_ok-push_rows.ensures.ok c.in_ok-push_value.ensures.ok c.in_ok-push_heading-2.ensures.ok e) c.push_tree.ensures.ok
+
+pub returns-clause-whole : goal.returns-clause-whole
+returns-clause-whole c = on_ok_weaker c.push_tree.result (λ e. record {
+  matrix = c.n.ensures.matrix;
+  num = c.in_ok-push_value.ensures.num;
+  den = c.in_ok-push_value.ensures.den;
+  tree_length = omega (arith, c.len.ensures);
+}) c.push_tree.ensures.ok

@@ -5,7 +5,7 @@ use Rattle.std.proofs.lemmas.Int.{to_z-of_z}
 use Rattle.exact_forms.specs.Factors.{WeightedVector}
 use Rattle.text_lines.specs.Spelling.{line_of_words}
 use Rattle.text_lines.proofs.Written.{Extends-then, Extends-append}
-use Rattle.cone_tree_certificate.specs.VerdictText.{term_words}
+use Rattle.cone_tree_certificate.specs.VerdictText.{term_words, IsNarrowTerm}
 use Rattle.cone_tree_certificate.proofs.WrittenLines.{coordinates_none, coordinates_more, term_end}
 use Rattle.cone_tree_certificate.proofs.writing.push_term.Goals as goal
 
@@ -32,3 +32,12 @@ returns-clause-ok c =
     subst (λ (term : WeightedVector). c.push-2.new.self.items ≡ c.args.into.now.items ++ line_of_words (term_words term)) c.term.view_is
     (term_end (record { weight = c.term.inside.weight; vector = c.term.inside.vector }) c.loop-coordinate.coordinate-index c.as_slice-coordinates.result.now c.args.into.now.items c.push_quotient.new.into.items c.loop-coordinate.into.items c.push-2.new.self.items
     c.as_slice-coordinates.ensures.value (omega arith) c.in_ok-push_quotient.ensures.ok c.loop-coordinate.invariant.so_far c.in_ok-push-2.ensures.items)
+
+pub returns-clause-narrow : goal.returns-clause-narrow
+returns-clause-narrow c =
+    subst IsNarrowTerm c.term.view_is (record {
+      num = c.in_ok-push_quotient.ensures.num;
+      den = c.in_ok-push_quotient.ensures.den;
+      vector =
+          c.as_slice-coordinates.ensures.vector;
+    })

@@ -1,8 +1,8 @@
 use Rattle.std.proofs.Common.{◌∙◌, ℕ, List, sym, subst, refl}
 use Rattle.cpfactor_lines.specs.Requests.{request_of}
-use Rattle.cpfactor_top.specs.Files.{FileShown, file_shown, Encloses, matrix_file, IsRead, IsFileAnswer}
+use Rattle.cpfactor_top.specs.Files.{FileShown, file_shown, matrix_file, IsRead, IsFileAnswer}
 use Rattle.cpfactor_top.specs.Answers.{answers_of_matrix, answers_of, IsBytesAnswer}
-use Rattle.cpfactor_top.proofs.FileLaws.{is_read, stays_at_all, never_falls_at_all, refl_le, unless_failed}
+use Rattle.cpfactor_top.proofs.FileLaws.{Encloses, is_read, stays_at_all, never_falls_at_all, refl_le, unless_failed}
 use Rattle.cpfactor_top.proofs.OutcomeLaws.{ends_by_follows}
 use Rattle.cpfactor_top.proofs.RequestLaws.{file_among, request_enclosed}
 use Rattle.cpfactor_top.proofs.program.answer_command.Goals as goal

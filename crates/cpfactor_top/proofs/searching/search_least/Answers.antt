@@ -5,7 +5,7 @@ use Rattle.unimodular_cone.specs.declared.Mode.{Mode}
 use Rattle.unimodular_cone.specs.Answer.{SearchAnswer}
 use Rattle.symmetric_matrix.specs.Symmetric.{entry, FitsInt}
 use Rattle.cpfactor_top.specs.declared.ended.Cause.TheVariants.{Overflow}
-use Rattle.cpfactor_lines.specs.declared.owed.Owed.TheVariants.{Bound}
+use Rattle.perfect_walk.specs.declared.journal.Owed.TheVariants.{Bound}
 use Rattle.cpfactor_top.specs.Causes.{ending}
 use Rattle.cpfactor_lines.specs.Texts.{owed_text, minimum_text}
 use Rattle.cpfactor_top.specs.Searching.{IsFound}

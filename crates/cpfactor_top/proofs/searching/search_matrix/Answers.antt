@@ -1,4 +1,4 @@
-use Rattle.std.specs.Prelude.{pos, ◌≤ℤ◌, nat_abs}
+use Rattle.std.specs.Prelude.{pos, ◌≤ℤ◌, nat_abs, None}
 use Rattle.matrix_text.specs.Clearing.{IsCleared}
 use Rattle.std.proofs.Common.{◌≡◌, subst, inl, rules, to_z, of_z}
 use Rattle.std.proofs.lemmas.Int.{to_z-of_z}
@@ -23,4 +23,4 @@ returns-in-Ok g c =
     (subst (λ d. EndsBy (IsFound c.args.mode c.args.depth c.in-Ok.s d) (sink_shown g.K.Sink c.clear_or_refuse.new.sink c.search_whole.new.sink) c.search_whole.result) d c.search_whole.ensures))
 
 pub returns-in-Err : goal.returns-in-Err
-returns-in-Err g c = ends_by_follows (Refuses (IsClearRefused c.args.a.now)) (IsSearched c.args.mode c.args.depth c.args.a.now) _ (λ e text h. inl h) _ c.in-Err.ensures.refused
+returns-in-Err g c = ends_by_follows (Refuses (IsClearRefused None c.args.a.now)) (IsSearched c.args.mode c.args.depth c.args.a.now) _ (λ e text h. inl h) _ c.in-Err.ensures.refused

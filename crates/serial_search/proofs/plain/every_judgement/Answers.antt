@@ -1,37 +1,50 @@
-use Rattle.std.specs.Prelude.{◌≡◌, ◌≤◌, ◌-◌, List, min, length, take}
-use Rattle.std.proofs.Common.{arith, ap, ◌∙◌}
+use Rattle.std.specs.Prelude.{◌≡◌, ◌≤◌, ℕ, List, min}
+use Rattle.std.proofs.Common.{arith, sym, ap, ◌∙◌, subst}
 use Rattle.symmetric_matrix.specs.Symmetric.{entry}
 use Rattle.unimodular_cone.specs.Shown.{ShownCone}
-use Rattle.search_core.specs.Judging.{shown_code}
+use Rattle.search_core.specs.Judging.{shown_code, IsJudgementOf}
 use Rattle.serial_search.specs.Turns.{IsOnTop}
-use Rattle.serial_search.proofs.Tops.{shown_top}
+use Rattle.serial_search.proofs.Tops.{AreDeep, may_turn, top_there, deep_turned}
 use Rattle.serial_search.proofs.Stacks.{no_items, plain_starts, plain_turns, plain_falls, plain_ends}
 use Rattle.serial_search.proofs.plain.every_judgement.Goals as goal
 
-pub loop-cone-init : goal.loop-cone-init
-loop-cone-init c = rw (c.in_ok-push.ensures.items, c.new-stack.ensures.items, c.start_word-word.ensures, c.new-judged.ensures.items)
-    (plain_starts c.args.mode c.args.q.now.size (entry c.args.q.now) c.args.limit c.args.root c.requires.root)
+pub loop-mode-init : goal.loop-mode-init
+loop-mode-init c = record {
+  searching = rw (c.requires.root.alone, c.start_word-word.ensures, c.new-judged.ensures.items)
+      (plain_starts c.args.mode c.args.q.now.size (entry c.args.q.now) c.args.limit c.requires.root.root c.requires.root.is_root);
+  deep = subst (AreDeep 0) (sym c.requires.root.alone) (omega arith, tt);
+  room = c.requires.room;
+}
 
-pub loop-cone-smaller : goal.loop-cone-smaller
-loop-cone-smaller c =
-    let e : c.min-lower.result ≡ min c.loop-cone.word (shown_code c.args.mode c.in-Some.cone.now) = c.min-lower.ensures ∙ ap (min c.loop-cone.word) c.code.ensures in
-    let stack : List ShownCone = c.loop-cone.stack.items in
-    let rest : List ShownCone = take (length stack - 1) stack in
-    let top : IsOnTop c.in-Some.cone.now rest stack = shown_top stack c.deref.result.now c.in-Some.cone.now c.deref.ensures.value c.in-Some.ensures.item.3.0 c.in-Some.ensures.item.1 in
-    plain_falls c.args.mode c.args.q.now.size (entry c.args.q.now) c.args.limit stack rest c.turn.new.stack.items c.in-Some.cone.now c.loop-cone.word
-    c.loop-cone.judged.items c.judgement-j.result c.n-n.ensures.matrix.positive c.loop-cone.invariant top (rw e at c.judgement-j.ensures) (c.in_ok-turn.ensures c.in-Some.cone.now rest top)
+pub judgement-j-requires-clause-within : goal.judgement-j-requires-clause-within
+judgement-j-requires-clause-within c =
+    (c.loop-mode.invariant.searching.search.cones c.top-cone.result.cone.now (top_there c.loop-mode.arena.cones c.top-cone.ensures.top.0 c.top-cone.result.cone.now c.top-cone.ensures.top.1)).1
 
-pub loop-cone-preserved : goal.loop-cone-preserved
-loop-cone-preserved c =
-    let e : c.min-lower.result ≡ min c.loop-cone.word (shown_code c.args.mode c.in-Some.cone.now) = c.min-lower.ensures ∙ ap (min c.loop-cone.word) c.code.ensures in
-    let stack : List ShownCone = c.loop-cone.stack.items in
-    let rest : List ShownCone = take (length stack - 1) stack in
-    let top : IsOnTop c.in-Some.cone.now rest stack = shown_top stack c.deref.result.now c.in-Some.cone.now c.deref.ensures.value c.in-Some.ensures.item.3.0 c.in-Some.ensures.item.1 in
-    rw (e, c.in_ok-insert.ensures.items) (plain_turns c.args.mode c.args.q.now.size (entry c.args.q.now) c.args.limit stack rest c.turn.new.stack.items c.in-Some.cone.now c.loop-cone.word
-    c.loop-cone.judged.items c.judgement-j.result c.n-n.ensures.matrix.positive c.loop-cone.invariant top (rw e at c.judgement-j.ensures) (c.in_ok-turn.ensures c.in-Some.cone.now rest top))
+pub turn-requires-clause-may : goal.turn-requires-clause-may
+turn-requires-clause-may c =
+    let rest : List ShownCone = c.top-cone.ensures.top.0 in
+    let top : IsOnTop c.top-cone.result.cone.now rest c.loop-mode.arena.cones = c.top-cone.ensures.top.1 in
+    may_turn c.args.mode c.loop-mode.arena rest c.top-cone.result.cone.now c.args.limit c.min-lower.result c.judgement-j.result.fate top c.top-cone.ensures.size
+    c.loop-mode.invariant.deep c.loop-mode.invariant.room (c.loop-mode.invariant.searching.search.cones c.top-cone.result.cone.now (top_there c.loop-mode.arena.cones rest c.top-cone.result.cone.now top)).1 c.judgement-j.ensures.fate
+
+lowered : (c : goal.After-turn) → c.min-lower.result ≡ min c.loop-mode.word (shown_code c.args.mode c.top-cone.result.cone.now)
+lowered c = c.min-lower.ensures ∙ ap (min c.loop-mode.word) c.code.ensures
+
+judged : (c : goal.After-turn) → IsJudgementOf c.args.mode c.top-cone.result.cone.now c.args.limit (min c.loop-mode.word (shown_code c.args.mode c.top-cone.result.cone.now)) c.judgement-j.result
+judged c = subst (λ (w : ℕ). IsJudgementOf c.args.mode c.top-cone.result.cone.now c.args.limit w c.judgement-j.result) (lowered c) c.judgement-j.ensures
+
+pub loop-mode-smaller : goal.loop-mode-smaller
+loop-mode-smaller c =
+    plain_falls c.args.mode c.args.q.now.size (entry c.args.q.now) c.args.limit c.loop-mode.arena.cones c.top-cone.ensures.top.0 c.turn.new.arena.cones c.top-cone.result.cone.now c.loop-mode.word
+    c.loop-mode.judged.items c.judgement-j.result c.n-n.ensures.matrix.positive c.loop-mode.invariant.searching c.top-cone.ensures.top.1 (judged c) (c.turn.ensures.turned c.top-cone.result.cone.now c.top-cone.ensures.top.0 c.top-cone.ensures.top.1)
+
+pub loop-mode-preserved : goal.loop-mode-preserved
+loop-mode-preserved c = record {
+  searching = rw (lowered c, c.in_ok-insert.ensures.items) (plain_turns c.args.mode c.args.q.now.size (entry c.args.q.now) c.args.limit c.loop-mode.arena.cones c.top-cone.ensures.top.0 c.turn.new.arena.cones c.top-cone.result.cone.now c.loop-mode.word
+      c.loop-mode.judged.items c.judgement-j.result c.n-n.ensures.matrix.positive c.loop-mode.invariant.searching c.top-cone.ensures.top.1 (judged c) (c.turn.ensures.turned c.top-cone.result.cone.now c.top-cone.ensures.top.0 c.top-cone.ensures.top.1));
+  deep = deep_turned c.loop-mode.arena.cones c.top-cone.ensures.top.0 c.turn.new.arena.cones c.top-cone.result.cone.now c.judgement-j.result.fate c.loop-mode.invariant.deep c.top-cone.ensures.top.1 (c.turn.ensures.turned c.top-cone.result.cone.now c.top-cone.ensures.top.0 c.top-cone.ensures.top.1);
+  room = omega (arith, c.loop-mode.invariant.room, c.turn.ensures.depth);
+}
 
 pub returns : goal.returns
-returns c =
-    let shown : length c.deref.result.now ≡ length c.loop-cone.stack.items = ap length c.deref.ensures.value in
-    let none : length c.deref.result.now ≤ 0 = c.in_default.ensures.item.3 in
-    plain_ends c.args.mode c.args.q.now.size (entry c.args.q.now) c.args.limit c.loop-cone.stack.items c.loop-cone.word c.loop-cone.judged.items (no_items c.loop-cone.stack.items (omega arith)) c.loop-cone.invariant
+returns c = plain_ends c.args.mode c.args.q.now.size (entry c.args.q.now) c.args.limit c.loop-mode.arena.cones c.loop-mode.word c.loop-mode.judged.items (no_items c.loop-mode.arena.cones (omega arith)) c.loop-mode.invariant.searching

@@ -1,33 +1,52 @@
-use Rattle.std.specs.Prelude.{◌≡◌, ◌≤◌, ◌-◌, List, min, length, take}
-use Rattle.std.proofs.Common.{arith, ap}
+use Rattle.std.specs.Prelude.{◌≡◌, ◌≤◌, ℕ, List, min, length}
+use Rattle.std.proofs.Common.{arith, sym, subst}
 use Rattle.symmetric_matrix.specs.Symmetric.{entry}
 use Rattle.unimodular_cone.specs.Shown.{ShownCone}
-use Rattle.search_core.specs.Judging.{shown_code}
-use Rattle.serial_search.specs.Turns.{IsOnTop}
-use Rattle.serial_search.proofs.Tops.{shown_top}
+use Rattle.search_core.specs.declared.Fate.{Fate}
+use Rattle.search_core.specs.Fair.{IsKeptOrIrrelevant}
+use Rattle.search_core.specs.Judging.{shown_code, IsShownFate, IsJudgementOf}
+use Rattle.serial_search.specs.Turns.{IsOnTop, AreStacked}
+use Rattle.serial_search.proofs.Tops.{may_turn, top_there, deep_turned}
 use Rattle.serial_search.proofs.Stacks.{search_turns, fewer_left, search_ends, no_items}
 use Rattle.serial_search.proofs.search.search.Goals as goal
 
-pub loop-cone-smaller : goal.loop-cone-smaller
-loop-cone-smaller c =
-    let e : c.lowering_judgement-j.new.word ≡ min c.loop-cone.word (shown_code c.args.mode c.in-Some.cone.now) = c.lowering_judgement-j.ensures.word in
-    let stack : List ShownCone = c.loop-cone.stack.items in
-    let rest : List ShownCone = take (length stack - 1) stack in
-    let top : IsOnTop c.in-Some.cone.now rest stack = shown_top stack c.deref.result.now c.in-Some.cone.now c.deref.ensures.value c.in-Some.ensures.item.3.0 c.in-Some.ensures.item.1 in
-    fewer_left c.args.mode c.args.q.now.size (entry c.args.q.now) c.args.limit stack rest c.turn.new.stack.items c.in-Some.cone.now c.loop-cone.word
-    c.loop-cone.judged.items c.keep.new.judged.items c.lowering_judgement-j.result c.n-n.ensures.matrix.positive c.loop-cone.invariant top (rw e at c.lowering_judgement-j.ensures.judged) (c.in_ok-turn.ensures c.in-Some.cone.now rest top) (rw e at c.in_ok-keep.ensures.kept)
+pub turn-requires-clause-may : goal.turn-requires-clause-may
+turn-requires-clause-may c =
+    let rest : List ShownCone = c.top-cone.ensures.top.0 in
+    let top : IsOnTop c.top-cone.result.cone.now rest c.loop-mode.arena.cones = c.top-cone.ensures.top.1 in
+    may_turn c.args.mode c.loop-mode.arena rest c.top-cone.result.cone.now c.args.limit c.lowering_fate-fate.new.word c.lowering_fate-fate.result top c.top-cone.ensures.size
+    c.loop-mode.invariant.deep c.loop-mode.invariant.room (c.loop-mode.invariant.searching.cones c.top-cone.result.cone.now (top_there c.loop-mode.arena.cones rest c.top-cone.result.cone.now top)).1 c.lowering_fate-fate.ensures.fate
 
-pub loop-cone-preserved : goal.loop-cone-preserved
-loop-cone-preserved c =
-    let e : c.lowering_judgement-j.new.word ≡ min c.loop-cone.word (shown_code c.args.mode c.in-Some.cone.now) = c.lowering_judgement-j.ensures.word in
-    let stack : List ShownCone = c.loop-cone.stack.items in
-    let rest : List ShownCone = take (length stack - 1) stack in
-    let top : IsOnTop c.in-Some.cone.now rest stack = shown_top stack c.deref.result.now c.in-Some.cone.now c.deref.ensures.value c.in-Some.ensures.item.3.0 c.in-Some.ensures.item.1 in
-    rw e (search_turns c.args.mode c.args.q.now.size (entry c.args.q.now) c.args.limit stack rest c.turn.new.stack.items c.in-Some.cone.now c.loop-cone.word
-    c.loop-cone.judged.items c.keep.new.judged.items c.lowering_judgement-j.result c.n-n.ensures.matrix.positive c.loop-cone.invariant top (rw e at c.lowering_judgement-j.ensures.judged) (c.in_ok-turn.ensures c.in-Some.cone.now rest top) (rw e at c.in_ok-keep.ensures.kept))
+lowered : (c : goal.After-turn) → c.lowering_fate-fate.new.word ≡ min c.loop-mode.word (shown_code c.args.mode c.top-cone.result.cone.now)
+lowered c = c.lowering_fate-fate.ensures.word
+
+judged : (c : goal.After-turn) → IsJudgementOf c.args.mode c.top-cone.result.cone.now c.args.limit (min c.loop-mode.word (shown_code c.args.mode c.top-cone.result.cone.now)) c.in_ok-keep_fate.ensures.kept.j
+judged c = record {
+  path_is = c.in_ok-keep_fate.ensures.kept.path_is;
+  least_is = c.in_ok-keep_fate.ensures.kept.least_is;
+  fate = subst (λ (w : ℕ). IsShownFate c.args.mode c.top-cone.result.cone.now c.args.limit w c.in_ok-keep_fate.ensures.kept.j.fate) (lowered c)
+      (subst (IsShownFate c.args.mode c.top-cone.result.cone.now c.args.limit c.lowering_fate-fate.new.word) (sym c.in_ok-keep_fate.ensures.kept.fate_is) c.lowering_fate-fate.ensures.fate);
+}
+
+stacks : (c : goal.After-turn) → AreStacked c.top-cone.result.cone.now c.in_ok-keep_fate.ensures.kept.j.fate c.top-cone.ensures.top.0 c.turn.new.arena.cones
+stacks c = subst (λ (f : Fate). AreStacked c.top-cone.result.cone.now f c.top-cone.ensures.top.0 c.turn.new.arena.cones) (sym c.in_ok-keep_fate.ensures.kept.fate_is)
+    (c.turn.ensures.turned c.top-cone.result.cone.now c.top-cone.ensures.top.0 c.top-cone.ensures.top.1)
+
+keeps : (c : goal.After-turn) → IsKeptOrIrrelevant c.args.mode (min c.loop-mode.word (shown_code c.args.mode c.top-cone.result.cone.now)) c.in_ok-keep_fate.ensures.kept.j c.loop-mode.judged.items c.keep_fate.new.judged.items
+keeps c = subst (λ (w : ℕ). IsKeptOrIrrelevant c.args.mode w c.in_ok-keep_fate.ensures.kept.j c.loop-mode.judged.items c.keep_fate.new.judged.items) (lowered c) c.in_ok-keep_fate.ensures.kept.kept
+
+pub loop-mode-smaller : goal.loop-mode-smaller
+loop-mode-smaller c =
+    fewer_left c.args.mode c.args.q.now.size (entry c.args.q.now) c.args.limit c.loop-mode.arena.cones c.top-cone.ensures.top.0 c.turn.new.arena.cones c.top-cone.result.cone.now c.loop-mode.word
+    c.loop-mode.judged.items c.keep_fate.new.judged.items c.in_ok-keep_fate.ensures.kept.j c.n-n.ensures.matrix.positive c.loop-mode.invariant.searching c.top-cone.ensures.top.1 (judged c) (stacks c) (keeps c)
+
+pub loop-mode-preserved : goal.loop-mode-preserved
+loop-mode-preserved c = record {
+  searching = rw (lowered c) (search_turns c.args.mode c.args.q.now.size (entry c.args.q.now) c.args.limit c.loop-mode.arena.cones c.top-cone.ensures.top.0 c.turn.new.arena.cones c.top-cone.result.cone.now c.loop-mode.word
+      c.loop-mode.judged.items c.keep_fate.new.judged.items c.in_ok-keep_fate.ensures.kept.j c.n-n.ensures.matrix.positive c.loop-mode.invariant.searching c.top-cone.ensures.top.1 (judged c) (stacks c) (keeps c));
+  deep = deep_turned c.loop-mode.arena.cones c.top-cone.ensures.top.0 c.turn.new.arena.cones c.top-cone.result.cone.now _ c.loop-mode.invariant.deep c.top-cone.ensures.top.1 (stacks c);
+  room = omega (arith, c.loop-mode.invariant.room, c.turn.ensures.depth);
+}
 
 pub returns : goal.returns
-returns c =
-    let shown : length c.deref.result.now ≡ length c.loop-cone.stack.items = ap length c.deref.ensures.value in
-    let none : length c.deref.result.now ≤ 0 = c.in_default.ensures.item.3 in
-    search_ends c.args.mode c.args.q.now.size (entry c.args.q.now) c.args.limit c.loop-cone.stack.items c.loop-cone.word c.loop-cone.judged.items (no_items c.loop-cone.stack.items (omega arith)) c.loop-cone.invariant
+returns c = search_ends c.args.mode c.args.q.now.size (entry c.args.q.now) c.args.limit c.loop-mode.arena.cones c.loop-mode.word c.loop-mode.judged.items (no_items c.loop-mode.arena.cones (omega arith)) c.loop-mode.invariant.searching

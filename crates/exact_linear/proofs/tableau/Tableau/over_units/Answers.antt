@@ -29,19 +29,22 @@ invariant_of-result c =
     let size = entries_size c.units_of-rows.result width c.args.columns.now c.in_ok-entries.entries.items c.in_ok-entries.ensures in
     let one : 1 ≤ c.units_of-rows.result = (let a = some_units c.args.n c.requires.positive in let b = c.units_of-rows.ensures.value in omega arith) in
     record {
-      cells = size;
-      row = ap length c.in_ok-pivot_row.ensures.items ∙ length-take-le width c.deref.result.now (a_row c.units_of-rows.result width (length c.deref.result.now) (ap length c.deref.ensures.value ∙ size) one);
-      room = ap length c.in_ok-spare.ensures.items ∙ ap length c.deref-2.ensures.value ∙ size;
+      cells = ap length c.in_ok-entries-2.ensures ∙ size;
+      row = ap length c.in_ok-pivot_row.ensures.items
+          ∙ length-take-le width c.deref.result.now
+          (a_row c.units_of-rows.result width (length c.deref.result.now) (ap length c.deref.ensures.value ∙ size) one);
       places = ap length c.in_ok-basic.ensures ∙ length-range_with_len 0 c.units_of-rows.result;
       positive = omega arith;
       within = λ i l. numbers_within c.units_of-rows.result width c.in_ok-basic.basic.items i c.in_ok-basic.ensures l (omega arith);
     }
 
 pub returns-clause-table : goal.returns-clause-table
-returns-clause-table c = start_table_made c.args.n c.units_of-rows.result c.args.columns.now c.in_ok-entries.entries.items c.in_ok-basic.basic.items c.units_of-rows.ensures.value c.in_ok-entries.ensures c.in_ok-basic.ensures
+returns-clause-table c = start_table_made c.args.n c.units_of-rows.result c.args.columns.now c.in_ok-entries-2.entries c.in_ok-basic.basic.items
+    c.units_of-rows.ensures.value (c.in_ok-entries-2.ensures ∙ c.in_ok-entries.ensures) c.in_ok-basic.ensures
 
 pub returns-clause-coordinates : goal.returns-clause-coordinates
 returns-clause-coordinates c =
     subst (λ (t : Table). HasCoordinates (columns_of c.args.n c.args.columns.now) t)
-    (sym (start_table_made c.args.n c.units_of-rows.result c.args.columns.now c.in_ok-entries.entries.items c.in_ok-basic.basic.items c.units_of-rows.ensures.value c.in_ok-entries.ensures c.in_ok-basic.ensures))
+    (sym (start_table_made c.args.n c.units_of-rows.result c.args.columns.now c.in_ok-entries-2.entries c.in_ok-basic.basic.items
+    c.units_of-rows.ensures.value (c.in_ok-entries-2.ensures ∙ c.in_ok-entries.ensures) c.in_ok-basic.ensures))
     (start_has_coordinates c.args.n c.args.columns.now)

@@ -1,0 +1,3 @@
+pub mod Arena
+pub mod Rows
+pub mod SplitRows

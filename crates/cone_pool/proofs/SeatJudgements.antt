@@ -1,0 +1,87 @@
+-- The judgements of the worker that has a seat, at the steps on the seat.
+use Rattle.std.proofs.Common.{◌≡◌, ℕ, ◌≤◌, ◌⊎◌, min, List, [], ◌∷◌, ◌++◌, sym, ap, ◌∙◌, subst, inl, inr, arith, le_trans}
+use Rattle.std.specs.List.{Contains}
+use Rattle.std.proofs.lemmas.List.Elements.{Contains-push, Contains-append_left, Contains-append_right, Contains-append_cases, Contains-push_cases}
+use Rattle.unimodular_cone.specs.declared.Mode.{Mode}
+use Rattle.unimodular_cone.specs.Cones.{Matrix}
+use Rattle.search_core.specs.declared.Judged.{Judged}
+use Rattle.search_core.specs.Fair.{code, IsJudgement}
+use Rattle.bound_word.specs.Seats.{Seat, greatest_word, after_offer, joined_seat}
+use Rattle.cone_pool.specs.Parts.{AreJudgedAt}
+
+pub nothing_in : {X : Type 0} (x : X) → Contains [] x → ⊥
+nothing_in x (k, l, e) = omega arith
+
+pub lesser : (a b : ℕ) → (min a b ≡ a) ⊎ (min a b ≡ b)
+lesser a b = grind arith
+
+module _ (m : Mode) (n : ℕ) (q : Matrix) (d : ℕ) where
+  abbrev IsGiven : ℕ → List Judged → Type 0
+  IsGiven given js = (given ≡ greatest_word) ⊎ ((j : Judged) × Contains js j × (given ≡ code m n q j.path))
+
+  pub lower_told : (old new : ℕ) (j : Judged) → new ≤ old → IsJudgement m n q d old j → IsJudgement m n q d new j
+  lower_told old new j le h = record { least = h.least; fate = h.fate; above_final = le_trans le h.above_final; below_code = h.below_code }
+
+  pub none_judged : (seat : Seat) (js : List Judged) → seat.given ≡ greatest_word → js ≡ [] → AreJudgedAt m n q d seat js
+  none_judged seat js given none = record {
+    judgements = λ j there. absurd (nothing_in j (subst (λ (l : List Judged). Contains l j) none there));
+    given_below = λ j there. absurd (nothing_in j (subst (λ (l : List Judged). Contains l j) none there));
+    given_is = inl given;
+  }
+
+  -- one more judgement, under the word that an offer was answered
+  pub one_judged : (seat : Seat) (js new : List Judged) (offered word : ℕ) (j : Judged) → AreJudgedAt m n q d seat js → IsJudgement m n q d word j
+      → word ≤ seat.told → offered ≡ code m n q j.path → new ≡ js ++ j ∷ [] → AreJudgedAt m n q d (after_offer seat offered word) new
+  one_judged seat js new offered word j h mine low coded pushed = record {
+    judgements = λ k there. judged k (cases k there);
+    given_below = λ k there. below k (cases k there);
+    given_is = is (lesser seat.given offered) h.given_is;
+  }
+    where
+      cases : (k : Judged) → Contains new k → Contains js k ⊎ (j ≡ k)
+      cases k there = Contains-push_cases js j k (subst (λ (l : List Judged). Contains l k) pushed there)
+
+      judged : (k : Judged) → (Contains js k ⊎ (j ≡ k)) → IsJudgement m n q d word k
+      judged k (inl old) = lower_told seat.told word k low (h.judgements k old)
+      judged k (inr e) = subst (IsJudgement m n q d word) e mine
+
+      below : (k : Judged) → (Contains js k ⊎ (j ≡ k)) → min seat.given offered ≤ code m n q k.path
+      below k (inl old) = let b = h.given_below k old in omega arith
+      below k (inr e) = subst (λ (i : Judged). min seat.given offered ≤ code m n q i.path) e (omega arith)
+
+      is : ((min seat.given offered ≡ seat.given) ⊎ (min seat.given offered ≡ offered)) → IsGiven seat.given js → IsGiven (min seat.given offered) new
+      is (inr e) was = inr (j, subst (λ (l : List Judged). Contains l j) (sym pushed) (Contains-push js j), e ∙ coded)
+      is (inl e) (inl none) = inl (e ∙ none)
+      is (inl e) (inr (i, old, f)) = inr (i, subst (λ (l : List Judged). Contains l i) (sym pushed) (Contains-append_left js (j ∷ []) i old), e ∙ f)
+
+  -- two seats are joined, and their judgements appended
+  pub both_judged : (s t u : Seat) (js ks new : List Judged) → u ≡ joined_seat s t → new ≡ js ++ ks → AreJudgedAt m n q d s js → AreJudgedAt m n q d t ks
+      → AreJudgedAt m n q d u new
+  both_judged s t u js ks new joined appended h g = record {
+    judgements = λ j there. judged j (cases j there);
+    given_below = λ j there. below j (cases j there);
+    given_is = subst (λ (r : Seat). IsGiven r.given new) (sym joined) (is (lesser s.given t.given) h.given_is g.given_is);
+  }
+    where
+      told : u.told ≡ min s.told t.told
+      told = ap (λ (r : Seat). r.told) joined
+
+      gave : u.given ≡ min s.given t.given
+      gave = ap (λ (r : Seat). r.given) joined
+
+      cases : (j : Judged) → Contains new j → Contains js j ⊎ Contains ks j
+      cases j there = Contains-append_cases js ks j (subst (λ (l : List Judged). Contains l j) appended there)
+
+      judged : (j : Judged) → (Contains js j ⊎ Contains ks j) → IsJudgement m n q d u.told j
+      judged j (inl c) = lower_told s.told u.told j (let a = told in omega arith) (h.judgements j c)
+      judged j (inr c) = lower_told t.told u.told j (let a = told in omega arith) (g.judgements j c)
+
+      below : (j : Judged) → (Contains js j ⊎ Contains ks j) → u.given ≤ code m n q j.path
+      below j (inl c) = let a = gave in let b = h.given_below j c in omega arith
+      below j (inr c) = let a = gave in let b = g.given_below j c in omega arith
+
+      is : ((min s.given t.given ≡ s.given) ⊎ (min s.given t.given ≡ t.given)) → IsGiven s.given js → IsGiven t.given ks → IsGiven (min s.given t.given) new
+      is (inl e) (inl none) r = inl (e ∙ none)
+      is (inl e) (inr (j, c, f)) r = inr (j, subst (λ (l : List Judged). Contains l j) (sym appended) (Contains-append_left js ks j c), e ∙ f)
+      is (inr e) l (inl none) = inl (e ∙ none)
+      is (inr e) l (inr (j, c, f)) = inr (j, subst (λ (x : List Judged). Contains x j) (sym appended) (Contains-append_right js ks j c), e ∙ f)

@@ -1,0 +1,17 @@
+use Rattle.std.proofs.Common.{[], ◌∷◌}
+use Rattle.symmetric_matrix.specs.Symmetric.{entry}
+use Rattle.cone_pool.proofs.Carrying.{restacked, kept_it}
+use Rattle.cone_pool.proofs.member.Member.handle.Goals as goal
+
+pub reach-requires : goal.reach-requires
+reach-requires c = c.requires.part.cones
+
+pub returns-then-not-reach-clause-part : goal.returns-then-not-reach-clause-part
+returns-then-not-reach-clause-part c =
+    kept_it c.args.mode c.args.q.now.size (entry c.args.q.now) c.args.limit c.args.path _ c.add.new.self c.ended.new.seat c.add.ensures c.ended.ensures
+    (restacked c.args.mode c.args.q.now.size (entry c.args.q.now) c.args.limit
+    (c.args.path ∷ []) c.args.self.now c.reach.new.stack c.reach.ensures.cones c.requires.part)
+
+pub treat-requires-clause-part : goal.treat-requires-clause-part
+treat-requires-clause-part c = restacked c.args.mode c.args.q.now.size (entry c.args.q.now) c.args.limit
+    (c.args.path ∷ []) c.args.self.now c.reach.new.stack c.reach.ensures.cones c.requires.part

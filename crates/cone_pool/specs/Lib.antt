@@ -1,0 +1,5 @@
+pub mod Deques
+pub mod Lots
+pub mod Parts
+pub mod Turns
+pub mod Crews

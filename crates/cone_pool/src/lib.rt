@@ -1,0 +1,23 @@
+//! Workers that share a search: each has a deque of paths, and takes from the others' where its own is empty.
+#![tactic(auto)]
+
+mod crew;
+mod gate;
+mod gathering;
+mod hiring;
+mod kept;
+mod lending;
+mod lot;
+mod member;
+mod opening;
+mod pool;
+mod pooled;
+mod rule;
+mod stack;
+#[cfg(test)]
+mod tests;
+mod token;
+
+pub use gate::{Gate, OpenGate};
+pub use pool::run_pool;
+pub use pooled::Pooled;

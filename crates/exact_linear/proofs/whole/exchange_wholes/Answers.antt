@@ -1,0 +1,88 @@
+use Rattle.std.proofs.Common.{◌≡◌, ◌∙◌, ◌++◌, ◌+◌, ◌*◌, ◌<◌, ◌^◌, sym, arith, ℕ, ℤ, List, nat_abs, take, drop, set, to_z-of_z}
+use Rattle.std.proofs.lemmas.List.{length-set, length-map}
+use Rattle.exact_forms.specs.Rational.{Rational, ratio}
+use Rattle.exact_linear.specs.Whole.{fractions_over, whole_at, turned}
+use Rattle.exact_linear.specs.Exchange.{new_cell, rest_cells, next_row, next_column, pivot_row}
+use Rattle.exact_linear.proofs.Rows.{cell_within, next_inside, next_after, last_column}
+use Rattle.exact_linear.proofs.WholeEntries.{row_below, all_written, written, written_small, small_back, at_least_one_positive}
+use Rattle.exact_linear.proofs.whole.exchange_wholes.Goals as goal
+use Rattle.exact_linear.proofs.whole.exchange_wholes.Goals.{then-j-width, else-j-width}
+
+pub bounds-old-i : goal.bounds-old-i
+bounds-old-i c = omega (
+  arith,
+  cell_within c.loop-k.i c.loop-k.j c.args.width c.args.column c.args.rows c.loop-k.k c.loop-k.invariant.place
+      (omega arith) c.requires.column,
+)
+
+pub overflow_add-i : goal.overflow_add-i
+overflow_add-i c = omega (arith, row_below c.loop-k.i c.loop-k.j c.args.width c.args.rows c.loop-k.k c.loop-k.invariant.place (omega arith), c.ranges.rows)
+
+entry_is : (c : goal.Joined-j-width)
+    → new_cell c.args.row c.loop-k.i (ratio (whole_at c.args.old.now c.loop-k.k) (nat_abs c.args.den))
+    (ratio (whole_at c.args.old.now (c.loop-k.i * c.args.width + c.args.column)) (nat_abs c.args.den))
+    (ratio (turned (whole_at c.args.old.now (c.args.row * c.args.width + c.args.column))
+    (whole_at c.args.old.now (c.args.row * c.args.width + c.loop-k.j)))
+    (nat_abs (whole_at c.args.old.now (c.args.row * c.args.width + c.args.column))))
+    ≡ ratio c.in-Some.entry (nat_abs (whole_at c.args.old.now (c.args.row * c.args.width + c.args.column)))
+entry_is c =
+    let old = c.args.old.now in
+    let P : ℤ = whole_at old (c.args.row * c.args.width + c.args.column) in
+    let pivot : c.new-scales.result.pivot ≡ P =
+    rw (small_back P (c.requires.small.small (c.args.row * c.args.width + c.args.column))) at c.new-scales.ensures.pivot in
+    let den : c.new-scales.result.den ≡ c.args.den = rw (to_z-of_z c.ranges.den) at c.new-scales.ensures.den in
+    rw (
+      small_back (whole_at old c.loop-k.k) (c.requires.small.small c.loop-k.k),
+      small_back (whole_at old (c.loop-k.i * c.args.width + c.args.column)) (c.requires.small.small (c.loop-k.i * c.args.width + c.args.column)),
+      small_back (whole_at old (c.args.row * c.args.width + c.loop-k.j)) (c.requires.small.small (c.args.row * c.args.width + c.loop-k.j)),
+      pivot,
+      den,
+    ) at c.in-Some.ensures.value
+
+made_ok : (c : goal.Joined-j-width)
+    → let P : ℤ = whole_at c.args.old.now (c.args.row * c.args.width + c.args.column) in
+    let O : List Rational = fractions_over (nat_abs c.args.den) c.args.old.now in
+    let N : List Rational = pivot_row c.args.width O c.args.row c.args.column in
+    take (c.loop-k.k + 1) (fractions_over (nat_abs P) (set c.loop-k.into c.loop-k.k c.in-Some.entry)) ++ rest_cells c.args.row c.args.column
+    c.args.width N O (drop (c.loop-k.k + 1) O) (next_row c.args.width c.loop-k.i c.loop-k.j) (next_column c.args.width c.loop-k.i c.loop-k.j)
+    ≡ rest_cells c.args.row c.args.column c.args.width N O O 0 0
+made_ok c =
+    sym (written c.args.row c.args.column c.args.width c.args.rows (nat_abs c.args.den) c.loop-k.i c.loop-k.j c.loop-k.k c.args.old.now c.loop-k.into
+    c.in-Some.entry
+    (record { positive = at_least_one_positive c.args.den c.requires.den; small = c.requires.den_small }) c.requires.small c.requires.pivot
+    c.requires.rows c.requires.row c.loop-k.invariant.column c.loop-k-test.true c.loop-k.invariant.size (entry_is c))
+    ∙ (rw (to_z-of_z c.ranges.den) at c.loop-k.invariant.made)
+
+small_ok : (c : goal.Joined-j-width) (m : ℕ) → m < c.loop-k.k + 1 → nat_abs (whole_at (set c.loop-k.into c.loop-k.k c.in-Some.entry) m) < 2 ^ 63
+small_ok c m l = written_small c.loop-k.into c.loop-k.k m c.in-Some.entry (omega (arith, c.loop-k.invariant.size)) c.loop-k.invariant.small
+    c.in-Some.ensures.small l
+
+pub loop-k-preserved : goal.loop-k-preserved
+loop-k-preserved c = elim c.if-j-width.branch [
+  | then-j-width w ↦
+      let next = next_inside c.args.width c.loop-k.i c.loop-k.j w.if-j-width.true in
+      rw (w.i-is, w.j-is, to_z-of_z c.ranges.den, small_back c.in-Some.entry c.in-Some.ensures.small) record {
+        place = omega (arith, c.loop-k.invariant.place);
+        column = w.if-j-width.true;
+        size = length-set c.loop-k.into c.loop-k.k c.in-Some.entry ∙ c.loop-k.invariant.size;
+        small = small_ok c;
+        made = rw (next.0, next.1) at (made_ok c);
+      }
+  | else-j-width w ↦
+      let next = next_after c.args.width c.loop-k.i c.loop-k.j w.if-j-width.false in
+      rw (w.i-is, w.j-is, to_z-of_z c.ranges.den, small_back c.in-Some.entry c.in-Some.ensures.small) record {
+        place = last_column c.loop-k.k c.loop-k.i c.loop-k.j c.args.width c.loop-k.invariant.place c.loop-k.invariant.column w.if-j-width.false;
+        column = omega (arith, c.requires.column);
+        size = length-set c.loop-k.into c.loop-k.k c.in-Some.entry ∙ c.loop-k.invariant.size;
+        small = small_ok c;
+        made = rw (next.0, next.1) at (made_ok c);
+      }
+]
+
+pub returns-clause-made : goal.returns-clause-made
+returns-clause-made c = λ _.
+    all_written c.args.row c.args.column c.args.width (nat_abs (whole_at c.args.old.now (c.args.row * c.args.width + c.args.column))) c.loop-k.k
+    c.loop-k.i c.loop-k.j c.loop-k.into (fractions_over (nat_abs c.args.den) c.args.old.now)
+    (let s = length-map c.args.old.now (λ (w : ℤ). ratio w (nat_abs c.args.den)) in omega arith)
+    (c.loop-k.invariant.size ∙ sym (length-map c.args.old.now (λ (w : ℤ). ratio w (nat_abs c.args.den))))
+    (rw (to_z-of_z c.ranges.den) at c.loop-k.invariant.made)

@@ -1,0 +1,5 @@
+//! Walks of small matrices, searched on one thread.
+#![tactic(auto)]
+
+#[cfg(test)]
+mod tests;

@@ -1,6 +1,0 @@
-use Rattle.symmetric_matrix.specs.Symmetric.{entry}
-use Rattle.unimodular_cone.proofs.ShownAt.{root_fits}
-use Rattle.serial_search.proofs.plain.plain_sign.Goals as goal
-
-pub settle_sign-requires-clause-fits : goal.settle_sign-requires-clause-fits
-settle_sign-requires-clause-fits c = root_fits c.args.q.now.size (entry c.args.q.now) c.in-Ok.cone c.in-Ok.ensures.made c.in-Ok.ensures.fits
