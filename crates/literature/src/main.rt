@@ -7,13 +7,14 @@ use std::alloc::AllocError;
 use std::io;
 
 /// What is asked of each matrix.
-const COMMAND_LINES: [&str; 13] = [
+const COMMAND_LINES: [&str; 14] = [
     "solve horn_5.cpm",
     "solve nie_5.cpm",
     "solve sponsel_duer_5.cpm",
     "solve groetzner_duer_6.cpm",
     "solve berman_shaked_5.cpm",
     "solve jarre_schmallowsky_5.cpm",
+    "solve jarre_schmallowsky_5.cpm --depth 200",
     "minimum lattice_a2.cpm",
     "minimum lattice_a3.cpm",
     "minimum lattice_a4.cpm",
