@@ -1,3 +1,6 @@
 pub mod Arena
+pub mod Lends
+pub mod RowFields
 pub mod Rows
+pub mod ShownRows
 pub mod SplitRows

@@ -1,9 +1,9 @@
 -- Two neighbouring rows of a block at a split.
 --
 --     IsSplittableAt rows top i j    the cone of the row can be split on the sides of i and j, from 1
---     AreRowsSplit old top i j new  new is old with child 1 in that row and child 0 in the next
---     IsBlockSplit old len i j new   of the first len rows the last becomes child 1, and the row after them child 0
-use Rattle.std.specs.Prelude.{ℕ, ◌≡◌, ◌⊎◌, ◌<◌, ◌≤◌, ◌+◌, ◌-◌, true, false, List, [], ◌∷◌, ◌++◌, length, take, slice_index_or, slice_set}
+--     AreRowsSplit old top i j new   new is old with child 1 in that row and child 0 in the next
+--     IsTopSplit old top i j new     the rows below that row are as before, it is child 1, and the next is child 0
+use Rattle.std.specs.Prelude.{ℕ, ◌≡◌, ◌<◌, ◌≤◌, ◌+◌, ◌-◌, true, false, List, [], ◌∷◌, ◌++◌, length, take, slice_index_or, slice_set}
 use Rattle.unimodular_cone.specs.Shown.{ShownCone, IsChild, FitsOnBothSides}
 
 pub record IsSplittable (c : ShownCone) (i j : ℕ) : Type 0 where
@@ -25,13 +25,11 @@ pub record AreRowsSplit (old : List ShownCone) (top i j : ℕ) (new : List Shown
   pub is_first : IsChild was (i - 1) (j - 1) false first
   pub rows : new ≡ slice_set (slice_set old top second) (top + 1) first
 
-pub record IsBlockSplit (old : List ShownCone) (len i j : ℕ) (new : List ShownCone) : Type 0 where
+pub record IsTopSplit (old : List ShownCone) (top i j : ℕ) (new : List ShownCone) : Type 0 where
   pub was : ShownCone
   pub second : ShownCone
   pub first : ShownCone
-  pub stood : was ≡ slice_index_or old (len - 1) was
+  pub stood : was ≡ slice_index_or old top was
   pub is_second : IsChild was (i - 1) (j - 1) true second
   pub is_first : IsChild was (i - 1) (j - 1) false first
-  pub cones : take (len + 1) new ≡ take (len - 1) old ++ second ∷ first ∷ []
-  pub counted : len + 1 ≤ length new
-  pub written : (length new ≡ length old) ⊎ (length new ≡ len + 1)
+  pub cones : take (top + 2) new ≡ take top old ++ second ∷ first ∷ []

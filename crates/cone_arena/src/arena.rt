@@ -4,14 +4,13 @@ ghost use Rattle.std.specs.Prelude.{◌≡◌, ◌≤◌, ◌<◌, ◌+◌, ◌-
 ghost use Rattle.symmetric_matrix.specs.Symmetric.{entry};
 ghost use Rattle.unimodular_cone.specs.Shown.{IsFirstWideAt};
 ghost use Rattle.cone_arena.specs.Arena.{MaySplit, TopFits, IsTopReplaced, IsWideTop, IsTopOf, HasRoot, IsDropped};
-ghost use Rattle.cone_arena.specs.SplitRows.{IsSplittableAt, AreRowsSplit, IsBlockSplit};
-ghost use Rattle.std.specs.Vec.{vec_capacity};
 
+use crate::rows::Rows;
 use crate::view::ConeView;
 use std::alloc::{AllocError, Global};
 use std::marker::Model;
 use symmetric_matrix::SymInt;
-use unimodular_cone::{Cone, ConeFail, WideAt, children_fit, root};
+use unimodular_cone::{ConeFail, WideAt, children_fit, root};
 
 /// Cones of n generators each, one above the other, in one block of memory with room for two more than a depth.
 ///
@@ -22,7 +21,7 @@ pub struct ConeArena {
     depth: u8,
     len: usize,
     // The cones that count, and above them rows that stood there before and are written over.
-    rows: Vec<Cone>,
+    rows: Rows,
 }
 
 impl Model for ConeArena {
@@ -46,7 +45,7 @@ impl ConeArena {
         ensures depth { IfOk result (λ a. a.depth ≡ depth) }
         ensures empty { IfOk result (λ a. a.cones ≡ []) }
     {
-        let rows = Vec::with_capacity(alloc, usize::from(depth) + 2)?;
+        let rows = Rows::with_room(alloc, usize::from(depth) + 2)?;
         Ok(ConeArena {
             n,
             depth,
@@ -66,8 +65,7 @@ impl ConeArena {
     {
         match root(q) {
             Ok(cone) => {
-                self.rows.clear();
-                self.rows.push_reserved(cone);
+                self.rows.put_first(cone);
                 self.len = 1;
                 Ok(())
             }
@@ -85,7 +83,7 @@ impl ConeArena {
         ensures wide { IfErr result (IsWideTop self.old i j) }
         ensures kept { IfErr result (λ _. self.new ≡ self.old) }
     {
-        match children_fit(&self.rows[self.len - 1], i, j) {
+        match children_fit(self.rows.get(self.len - 1), i, j) {
             Some(at) => Err(at),
             None => {
                 self.split_fitting(i, j);
@@ -101,7 +99,7 @@ impl ConeArena {
         requires fits { TopFits self.old i j }
         ensures { IsTopReplaced self.old i j self.new }
     {
-        split_in(&mut self.rows, self.len, i, j);
+        self.rows.split(self.len - 1, i, j);
         self.len += 1;
     }
 
@@ -129,35 +127,6 @@ impl ConeArena {
         ensures top { IsTopOf self.now result.cone.now }
         ensures size { result.cone.now.size ≡ self.now.size }
     {
-        ConeView::of(&self.rows[self.len - 1])
+        ConeView::of(self.rows.get(self.len - 1))
     }
-}
-
-/// Splits the last of the rows that count: it becomes its child 1, and the row after it becomes its child 0.
-#[inline(always)]
-fn split_in(rows: &mut Vec<Cone>, len: usize, i: u8, j: u8)
-    requires some { 0 < len }
-    requires counted { len ≤ length rows.old.items }
-    requires room { len < vec_capacity rows.old }
-    requires splits { IsSplittableAt rows.old.items (len - 1) i j }
-    ensures split { IsBlockSplit rows.old.items len i j rows.new.items }
-    ensures capacity { vec_capacity rows.new ≡ vec_capacity rows.old }
-{
-    if len == rows.len() {
-        let above = rows[len - 1].split(i, j);
-        rows.push_reserved(above);
-    } else {
-        split_rows(rows, len - 1, i, j);
-    }
-}
-
-/// Splits the cone of a row where it stands: it becomes its child 1, and the next row becomes its child 0.
-#[inline(always)]
-fn split_rows(rows: &mut [Cone], top: usize, i: u8, j: u8)
-    requires inside { top + 1 < length rows.old }
-    requires splits { IsSplittableAt rows.old top i j }
-    ensures { AreRowsSplit rows.old top i j rows.new }
-{
-    let (below, above) = rows.split_at_mut(top + 1);
-    below[top].split_into(&mut above[0], i, j);
 }

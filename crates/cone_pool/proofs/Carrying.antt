@@ -9,7 +9,9 @@ use Rattle.search_core.specs.declared.Judged.{Judged}
 use Rattle.search_core.specs.Machine.{times, paths, below_splits}
 use Rattle.search_core.proofs.Times.{times-append, times_none}
 use Rattle.bound_word.specs.Seats.{Seat}
+use Rattle.cone_pool.specs.Keeping.{Judgements, IsSameList}
 use Rattle.cone_pool.specs.Parts.{Member, given_to, AreJudgedAt, AreCones, IsWorkerPart, TakesOnly}
+use Rattle.cone_pool.proofs.SeatJudgements.{same_judged}
 
 module _ (m : Mode) (n : ℕ) (q : Matrix) (d : ℕ) where
   pub took : (taken : List Path) (w v : Member) → length taken ≤ 2 → w.kept ≡ [] → IsWorkerPart m n q d [] w → TakesOnly taken w v
@@ -19,30 +21,30 @@ module _ (m : Mode) (n : ℕ) (q : Matrix) (d : ℕ) where
         let a = part.counts p in
         let b = h.counts p in
         let c : times p v.lot.put ≡ times p w.lot.put = ap (times p) h.put in
-        let e : times p (paths v.judged.items) ≡ times p (paths w.judged.items) = ap (λ (j : Vec Judged). times p (paths j.items)) h.judged in
+        let e : times p (paths v.judged.items) ≡ times p (paths w.judged.items) = ap (λ (j : Judgements). times p (paths j.items)) h.judged in
         let f : times p (below_splits v.judged.items) ≡ times p (below_splits w.judged.items) =
-        ap (λ (j : Vec Judged). times p (below_splits j.items)) h.judged in
+        ap (λ (j : Judgements). times p (below_splits j.items)) h.judged in
         let g : times p v.kept ≡ times p w.kept = ap (times p) h.kept in
         let i : times p (given_to v.number) ≡ times p (given_to w.number) = ap (λ (k : ℕ). times p (given_to k)) h.same.number in
         omega (arith, times_none p);
-    judged = subst (λ (s : Seat). AreJudgedAt m n q d s v.judged.items) (sym h.seat)
-        (subst (λ (l : Vec Judged). AreJudgedAt m n q d w.seat l.items) (sym h.judged) part.judged);
+    judged = subst (λ (s : Seat). AreJudgedAt m n q d s v.judged) (sym h.seat)
+        (subst (AreJudgedAt m n q d w.seat) (sym h.judged) part.judged);
     cones = subst (λ (l : Vec Cone). AreCones n q d l.items) (sym h.cones) part.cones;
     room = (let k : length v.kept ≡ 0 = ap length h.kept ∙ ap length none in omega arith);
   }
 
-  abbrev pub with_judged : Member → Vec Judged → Member
+  abbrev pub with_judged : Member → Judgements → Member
   with_judged w judged = record { number = w.number; lot = w.lot; seat = w.seat; judged = judged; kept = w.kept; cones = w.cones }
 
-  pub reserved : (hand : List Path) (w : Member) (judged : Vec Judged) → judged.items ≡ w.judged.items → IsWorkerPart m n q d hand w
+  pub reserved : (hand : List Path) (w : Member) (judged : Judgements) → IsSameList w.judged judged → IsWorkerPart m n q d hand w
       → IsWorkerPart m n q d hand (with_judged w judged)
-  reserved hand w judged e part = record {
+  reserved hand w judged same part = record {
     counts = λ p.
         let a = part.counts p in
-        let b : times p (paths judged.items) ≡ times p (paths w.judged.items) = ap (λ (l : List Judged). times p (paths l)) e in
-        let c : times p (below_splits judged.items) ≡ times p (below_splits w.judged.items) = ap (λ (l : List Judged). times p (below_splits l)) e in
+        let b : times p (paths judged.items) ≡ times p (paths w.judged.items) = ap (λ (l : List Judged). times p (paths l)) same.items in
+        let c : times p (below_splits judged.items) ≡ times p (below_splits w.judged.items) = ap (λ (l : List Judged). times p (below_splits l)) same.items in
         omega arith;
-    judged = subst (AreJudgedAt m n q d w.seat) (sym e) part.judged;
+    judged = same_judged m n q d w.seat w.judged judged same part.judged;
     cones = part.cones;
     room = part.room;
   }

@@ -24,15 +24,15 @@ total_handled-snoc p (v ∷ ws) w = let h = total_handled-snoc p ws w in omega a
 
 module _ (m : Mode) (n : ℕ) (q : Matrix) (d : ℕ) where
   pub gathers : (table : TableId) (all rest : List Member) (w old new : Member) → all ≡ rest ++ w ∷ [] → IsReturned m n q d table w
-      → HasGathered m n q d table all old → IsMerged w old new → HasGathered m n q d table rest new
-  gathers table all rest w old new split back h g = record {
+      → w.judged.whole ≡ old.judged.whole → HasGathered m n q d table all old → IsMerged w old new → HasGathered m n q d table rest new
+  gathers table all rest w old new split back alike h g = record {
     counts = λ p.
         let a = h.counts p in
         let b = g.counts p in
         let c : total_found p all ≡ total_found p (rest ++ w ∷ []) = ap (total_found p) split in
         let e : total_handled p all ≡ total_handled p (rest ++ w ∷ []) = ap (total_handled p) split in
         omega (arith, total_found-snoc p rest w, total_handled-snoc p rest w);
-    judged = both_judged m n q d old.seat w.seat new.seat old.judged.items w.judged.items new.judged.items g.seat g.judged h.judged back.judged;
+    judged = both_judged m n q d old.seat w.seat new.seat old.judged w.judged new.judged g.seat alike g.judged h.judged back.judged;
     cones = subst (λ (l : Vec Cone). AreCones n q d l.items) (sym g.cones) h.cones;
     none = g.kept ∙ h.none;
     number = g.number ∙ h.number;

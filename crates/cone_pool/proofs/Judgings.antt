@@ -1,7 +1,6 @@
 -- A judgement keeps a worker's part.
 use Rattle.std.proofs.Common.{◌≡◌, ℕ, ◌+◌, ◌-◌, ◌<◌, ◌≤◌, List, [], ◌∷◌, ◌++◌, length, refl, sym, ap, ◌∙◌, subst, arith, slice_index_or}
 use Rattle.std.specs.List.{Contains}
-use Rattle.std.specs.Global.{Vec}
 use Rattle.std.proofs.lemmas.List.Elements.{Contains-push}
 use Rattle.unimodular_cone.specs.declared.Mode.{Mode}
 use Rattle.unimodular_cone.specs.Paths.{Path}
@@ -18,6 +17,7 @@ use Rattle.search_core.proofs.Kept.{IsOwn, own_word}
 use Rattle.search_core.proofs.ShownFates.{shown_code_at, shown_least_at, fate_at}
 use Rattle.bound_word.specs.Seats.{after_offer}
 use Rattle.cone_pool.specs.Turns.{IsTopAt}
+use Rattle.cone_pool.specs.Keeping.{Judgements, IsNoted}
 use Rattle.cone_pool.specs.Parts.{Member, AreCones, IsWorkerPart}
 use Rattle.cone_pool.proofs.Merging.{times_paths_append, times_below_append}
 use Rattle.cone_pool.proofs.SeatJudgements.{one_judged}
@@ -45,12 +45,12 @@ its_judgement m n q d path c word j some at low of j_path =
       below_code = subst (λ (p : Path). word_of p j.fate ≤ code m n q p) (sym j_path) own.below_code;
     }
 
-pub judges : (m : Mode) (n : ℕ) (q : Matrix) (d : ℕ) (path : Path) (w : Member) (c : ShownCone) (offered word : ℕ) (j : Judged) (judged : Vec Judged) → 1 ≤ n
+pub judges : (m : Mode) (n : ℕ) (q : Matrix) (d : ℕ) (path : Path) (w : Member) (c : ShownCone) (offered word : ℕ) (j : Judged) (judged : Judgements) → 1 ≤ n
     → IsWorkerPart m n q d (path ∷ []) w → w.kept ≡ [] → IsConeAt n q path c → offered ≡ shown_code m c → word ≤ offered → word ≤ w.seat.told
-    → IsJudgementOf m c d word j → judged.items ≡ w.judged.items ++ j ∷ []
+    → IsJudgementOf m c d word j → IsNoted m word j w.judged judged
     → IsWorkerPart m n q d (children_of path j.fate)
     record { number = w.number; lot = w.lot; seat = after_offer w.seat offered word; judged = judged; kept = w.kept; cones = w.cones }
-judges m n q d path w c offered word j judged some part none at is below_code below_told of items =
+judges m n q d path w c offered word j judged some part none at is below_code below_told of noted =
     let js : List Judged = w.judged.items in
     let j_path : j.path ≡ path = of.path_is ∙ at.path_is in
     let coded : offered ≡ code m n q path = is ∙ shown_code_at m n q path c some at in
@@ -58,14 +58,14 @@ judges m n q d path w c offered word j judged some part none at is below_code be
     let mine : IsJudgement m n q d word j = its_judgement m n q d path c word j some at low of j_path in record {
       counts = λ p.
           let a = part.counts p in
-          let b : times p (paths judged.items) ≡ times p (paths (js ++ j ∷ [])) = ap (λ (l : List Judged). times p (paths l)) items in
-          let e : times p (below_splits judged.items) ≡ times p (below_splits (js ++ j ∷ [])) = ap (λ (l : List Judged). times p (below_splits l)) items in
+          let b : times p (paths judged.items) ≡ times p (paths (js ++ j ∷ [])) = ap (λ (l : List Judged). times p (paths l)) noted.items in
+          let e : times p (below_splits judged.items) ≡ times p (below_splits (js ++ j ∷ [])) = ap (λ (l : List Judged). times p (below_splits l)) noted.items in
           let f : times p (j.path ∷ []) ≡ times p (path ∷ []) = ap (λ (r : Path). times p (r ∷ [])) j_path in
           let g : times p (children_of j.path j.fate) ≡ times p (children_of path j.fate) = ap (λ (r : Path). times p (children_of r j.fate)) j_path in
           let k : times p (paths (j ∷ [])) ≡ times p (j.path ∷ []) = refl in
           let l : times p (below_splits (j ∷ [])) ≡ times p (children_of j.path j.fate) + times p [] = times-append p (children_of j.path j.fate) [] in
           omega (arith, times_paths_append p js (j ∷ []), times_below_append p js (j ∷ []), times_none p);
-      judged = one_judged m n q d w.seat js judged.items offered word j part.judged mine below_told (coded ∙ ap (code m n q) (sym j_path)) items;
+      judged = one_judged m n q d w.seat w.judged judged offered word j part.judged mine below_told (coded ∙ ap (code m n q) (sym j_path)) noted;
       cones = part.cones;
       room = (let a = few_children path j.fate in let b : length w.kept ≡ 0 = ap length none in omega arith);
     }

@@ -6,6 +6,7 @@ pub mod Making
 pub mod Putting
 pub mod Judgings
 pub mod Turning
+pub mod Keeping
 pub mod SeatJudgements
 pub mod Carrying
 pub mod Endings

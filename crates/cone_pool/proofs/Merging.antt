@@ -1,6 +1,5 @@
 -- Paths that go from one deque to another, and workers that are taken over.
 use Rattle.std.proofs.Common.{◌≡◌, ◌+◌, List, [], ◌∷◌, ◌++◌, refl, sym, ap, ◌∙◌, subst, arith}
-use Rattle.std.specs.Global.{Vec}
 use Rattle.unimodular_cone.specs.Paths.{Path}
 use Rattle.search_core.specs.declared.Judged.{Judged}
 use Rattle.bound_word.specs.Seats.{Seat, joined_seat}
@@ -8,6 +7,7 @@ use Rattle.search_core.specs.Machine.{children_of}
 use Rattle.search_core.specs.Machine.{times, paths, below_splits}
 use Rattle.search_core.proofs.Times.{times-append, times_cons, times_none}
 use Rattle.cone_pool.specs.Lots.{Lot, IsPushed, IsPopped, IsEmptied, token_taken}
+use Rattle.cone_pool.specs.Keeping.{Judgements, IsAppended}
 use Rattle.cone_pool.specs.Parts.{Member, IsSafe, IsDrained, IsMerged}
 
 -- from a to b, and from s to t
@@ -87,25 +87,25 @@ times_below_append p [] b = (let z = times_none p in omega arith)
 times_below_append p (j ∷ a) b = let h = times_below_append p a b in
     omega (arith, times-append p (children_of j.path j.fate) (below_splits a), times-append p (children_of j.path j.fate) (below_splits (a ++ b)))
 
-abbrev pub after_merge : Member → Lot → Seat → Vec Judged → Member
+abbrev pub after_merge : Member → Lot → Seat → Judgements → Member
 after_merge w lot seat judged = record { number = w.number; lot = lot; seat = seat; judged = judged; kept = w.kept; cones = w.cones }
 
-pub merged : (w chief : Member) (t u : Lot) (seat : Seat) (judged : Vec Judged) → IsDrained w.lot chief.lot t → IsSafe w.kept t [] u []
-    → judged.items ≡ chief.judged.items ++ w.judged.items → seat ≡ joined_seat chief.seat w.seat → w.lot.tokens ≡ []
+pub merged : (w chief : Member) (t u : Lot) (seat : Seat) (judged : Judgements) → IsDrained w.lot chief.lot t → IsSafe w.kept t [] u []
+    → IsAppended w.judged chief.judged judged → seat ≡ joined_seat chief.seat w.seat → w.lot.tokens ≡ []
     → IsMerged w chief (after_merge chief u seat judged)
-merged w chief t u seat judged h g items sat none = record {
+merged w chief t u seat judged h g both sat none = record {
   counts = λ p.
       let a = h.counts p in
       let b = g.counts p in
-      let c : times p (paths judged.items) ≡ times p (paths (chief.judged.items ++ w.judged.items)) = ap (λ (l : List Judged). times p (paths l)) items in
+      let c : times p (paths judged.items) ≡ times p (paths (chief.judged.items ++ w.judged.items)) = ap (λ (l : List Judged). times p (paths l)) both.items in
       let e : times p (below_splits judged.items) ≡ times p (below_splits (chief.judged.items ++ w.judged.items)) =
-      ap (λ (l : List Judged). times p (below_splits l)) items in
+      ap (λ (l : List Judged). times p (below_splits l)) both.items in
       let f : token_taken p w.lot.tokens ≡ 0 = ap (token_taken p) none in
       let k : times p u.popped ≡ times p chief.lot.popped = ap (times p) (g.popped ∙ h.popped) in
       let l : token_taken p u.tokens ≡ token_taken p chief.lot.tokens = ap (token_taken p) (g.tokens ∙ h.tokens) in
       let z = times_none p in
       omega (arith, times_paths_append p chief.judged.items w.judged.items, times_below_append p chief.judged.items w.judged.items);
-  judged = items;
+  judged = both;
   seat = sat;
   number = refl;
   deque = g.deque ∙ h.deque;

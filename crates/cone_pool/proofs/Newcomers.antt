@@ -1,5 +1,5 @@
 -- Lists that grow by one: thieves, and new workers.
-use Rattle.std.proofs.Common.{◌≡◌, ℕ, suc, ◌+◌, ◌<◌, List, [], ◌∷◌, ◌++◌, length, map, take, slice_index_or, sym, ap, ◌∙◌, subst, arith}
+use Rattle.std.proofs.Common.{◌≡◌, Bool, ℕ, suc, ◌+◌, ◌<◌, List, [], ◌∷◌, ◌++◌, length, map, take, slice_index_or, sym, ap, ◌∙◌, subst, arith}
 use Rattle.std.proofs.lemmas.List.{map-append}
 use Rattle.std.specs.Global.{Global}
 use Rattle.unimodular_cone.specs.Paths.{Path}
@@ -10,7 +10,7 @@ use Rattle.cone_pool.specs.declared.rule.Account.{Account}
 use Rattle.cone_pool.specs.declared.rule.EachOnce.{EachOnce}
 use Rattle.cone_pool.specs.Lots.{Deque, Lot, lot_deque}
 use Rattle.cone_pool.specs.Parts.{Member, deques_of}
-use Rattle.cone_pool.specs.Crews.{IsNewWorker, AreNewWorkers, seat_with_out}
+use Rattle.cone_pool.specs.Crews.{IsNewWorker, AreNewWorkers, AllKeep, seat_with_out}
 use Rattle.cone_pool.proofs.Crewing.{add_one}
 use Rattle.cone_pool.proofs.Handing.{deques_next}
 
@@ -34,6 +34,21 @@ new_more t j (x ∷ xs) w (a, h) n = (a, new_more t (suc j) xs w h (subst (λ (k
   where
     shift : (a b : ℕ) → suc a + b ≡ a + suc b
     shift a b = omega arith
+
+pub alike_more : (b : Bool) (ws all : List Member) (w : Member) → AllKeep b ws → w.judged.whole ≡ b → all ≡ ws ++ w ∷ [] → AllKeep b all
+alike_more b ws all w h e split = subst (AllKeep b) (sym split) (by ws h)
+  where
+    by : (ws : List Member) → AllKeep b ws → AllKeep b (ws ++ w ∷ [])
+    by [] h = (e, tt {0})
+    by (x ∷ xs) (a, h) = (a, by xs h)
+
+-- the last of them, and those before
+pub alike_less : (b : Bool) (all rest : List Member) (w : Member) → all ≡ rest ++ w ∷ [] → AllKeep b all → (w.judged.whole ≡ b) × AllKeep b rest
+alike_less b all rest w split h = by rest (subst (AllKeep b) split h)
+  where
+    by : (ws : List Member) → AllKeep b (ws ++ w ∷ []) → (w.judged.whole ≡ b) × AllKeep b ws
+    by [] (a, h) = (a, tt {0})
+    by (x ∷ xs) (a, h) = let r = by xs h in (r.0, (a, r.1))
 
 pub one_hired : (t : TableId) (k : ℕ) (ws all : List Member) (w : Member) → AreNewWorkers t 1 ws → length ws ≡ k → IsNewWorker t (k + 1) w
     → all ≡ ws ++ w ∷ [] → AreNewWorkers t 1 all

@@ -1,5 +1,5 @@
 -- Workers from their making to their return.
-use Rattle.std.proofs.Common.{◌≡◌, false, ℕ, zero, suc, ◌+◌, ◌<◌, ◌≤◌, ◌⊎◌, List, [], ◌∷◌, ◌++◌, length, map, take, drop, slice_index_or, refl, sym, ap, ap₂, ◌∙◌, subst, inl, inr, arith}
+use Rattle.std.proofs.Common.{◌≡◌, Bool, false, ℕ, zero, suc, ◌+◌, ◌<◌, ◌≤◌, ◌⊎◌, List, [], ◌∷◌, ◌++◌, length, map, take, drop, slice_index_or, refl, sym, ap, ap₂, ◌∙◌, subst, inl, inr, arith}
 use Rattle.std.specs.List.{Contains}
 use Rattle.exact_forms.proofs.Vectors.{contains_cons}
 use Rattle.std.specs.Global.{Vec}
@@ -13,10 +13,12 @@ use Rattle.search_core.specs.Machine.{times, paths, below_splits}
 use Rattle.search_core.proofs.Times.{times_none}
 use Rattle.bound_word.specs.Seats.{TableId, ShownTable, Seat, first_seat}
 use Rattle.cone_pool.specs.Lots.{Deque, Token, Lot, lot_deque, new_lot, token_taken, deque_of}
+use Rattle.cone_pool.specs.Keeping.{Judgements, AreNone}
 use Rattle.cone_pool.specs.Parts.{Member, given_to, AreJudgedAt, times_found, times_handled, total_found, total_handled, IsWorkerPart, IsWorkerReady, IsWorkerDone, IsReturned, HasGathered}
-use Rattle.cone_pool.specs.Crews.{MemberRest, LotCore, lot_of, rest_of_member, core_of_lot, seat_with_out, AreHanded, AreLent, total_taken, total_put, IsNewWorker, AreNewWorkers}
+use Rattle.cone_pool.specs.Crews.{MemberRest, LotCore, lot_of, rest_of_member, core_of_lot, seat_with_out, AreHanded, AreLent, total_taken, total_put, IsNewWorker, AreNewWorkers, AllKeep}
 use Rattle.cone_pool.proofs.Crewing.{map_head, map_tail, map_shorter}
-use Rattle.cone_pool.proofs.SeatJudgements.{nothing_in, none_judged}
+use Rattle.cone_pool.proofs.Keeping.{nothing_in}
+use Rattle.cone_pool.proofs.SeatJudgements.{none_judged}
 
 -- the deques of two workers, and of the rest of each list, are the same without tokens
 head_core : (v : Member) (vs : List Member) (x : Member) (xs : List Member) → map core_of_lot (map lot_of (v ∷ vs)) ≡ map core_of_lot (map lot_of (x ∷ xs))
@@ -30,6 +32,14 @@ tail_core v vs x xs e = map_tail core_of_lot core_of_lot v.lot (map lot_of vs) x
 pub new_lots : (t : TableId) (j : ℕ) (ws : List Member) → AreNewWorkers t j ws → AreHanded [] 0 0 (map lot_of ws)
 new_lots t j [] h = tt {0}
 new_lots t j (w ∷ ws) (a, h) = (ap (λ (l : Lot). l.out) a.lot, ap (λ (l : Lot). l.tokens) a.lot, new_lots t (suc j) ws h)
+
+pub rest_alike : (b : Bool) (ws back : List Member) → map rest_of_member back ≡ map rest_of_member ws → AllKeep b ws → AllKeep b back
+rest_alike b ws [] e h = tt {0}
+rest_alike b [] (u ∷ us) e h = absurd (map_shorter rest_of_member rest_of_member u us (sym e))
+rest_alike b (w ∷ ws) (u ∷ us) e (a, h) = (
+  ap (λ (y : MemberRest). y.judged.whole) (map_head rest_of_member rest_of_member u us w ws e) ∙ a,
+  rest_alike b ws us (map_tail rest_of_member rest_of_member u us w ws e) h,
+)
 
 -- a worker that ended
 pub record IsWorkerOver (m : Mode) (n : ℕ) (q : Matrix) (d : ℕ) (t : TableId) (number : ℕ) (w : Member) : Type 0 where
@@ -86,14 +96,17 @@ module _ (m : Mode) (n : ℕ) (q : Matrix) (d : ℕ) where
           let r = none p in
           let z = times_none p in
           omega arith;
-      judged = none_judged m n q d v.seat v.judged.items (ap (λ (y : MemberRest). y.seat.given) b ∙ new.given) judged;
+      judged = none_judged m n q d v.seat v.judged (ap (λ (y : MemberRest). y.seat.given) b ∙ new.given) none_yet;
       cones = λ y there. absurd (nothing_in y (subst (λ (l : List ShownCone). Contains l y) cones there));
       room = (let a : length v.kept ≡ 0 = ap (λ (y : MemberRest). length y.kept) b ∙ ap length new.kept in omega arith);
     };
   }
     where
+      none_yet : AreNone v.judged
+      none_yet = subst (λ (y : MemberRest). AreNone y.judged) (sym b) new.judged
+
       judged : v.judged.items ≡ []
-      judged = ap (λ (y : MemberRest). y.judged.items) b ∙ new.judged
+      judged = none_yet.items
 
       cones : v.cones.items ≡ []
       cones = ap (λ (y : MemberRest). y.cones.items) b ∙ new.cones
@@ -155,6 +168,11 @@ module _ (m : Mode) (n : ℕ) (q : Matrix) (d : ℕ) where
       let g : w.lot.deque ≡ v.lot.deque = (first v vs w ws h).same.deque in
       ap₂ (λ (a : Deque) (r : List Deque). a ∷ r) g f
 
+  pub done_alike : (b : Bool) (now new : List Member) → length new ≡ length now → Dones now new → AllKeep b now → AllKeep b new
+  done_alike b now [] l h a = tt {0}
+  done_alike b [] (w ∷ ws) l h a = absurd (omega arith)
+  done_alike b (v ∷ vs) (w ∷ ws) l h (e, a) = ((first v vs w ws h).same.whole ∙ e, done_alike b vs ws (omega arith) (later v vs w ws h) a)
+
   one_sum : (p : Path) (t : TableId) (j : ℕ) (w : Member) → IsWorkerOver m n q d t j w → times_found p w + times p (given_to j) ≡ times_handled p w
   one_sum p t j w h =
       let a = h.part.counts p in
@@ -185,7 +203,7 @@ module _ (m : Mode) (n : ℕ) (q : Matrix) (d : ℕ) where
     second = ap (λ (y : MemberRest). y.seat.first) b ∙ h.second;
     out = e;
     tokens = f;
-    judged = subst (λ (y : MemberRest). AreJudgedAt m n q d y.seat y.judged.items) (sym b) h.part.judged;
+    judged = subst (λ (y : MemberRest). AreJudgedAt m n q d y.seat y.judged) (sym b) h.part.judged;
   }
 
   pub all_back : (t : TableId) (j : ℕ) (ds : List Deque) (k : ℕ) (ws back : List Member) → AreWorkersOver m n q d t j ws
@@ -203,12 +221,12 @@ module _ (m : Mode) (n : ℕ) (q : Matrix) (d : ℕ) where
       either one others (inl s) = subst (IsReturned m n q d t) s one
       either one others (inr r) = others r
 
-  abbrev chief : Lot → Seat → Vec Judged → Vec Cone → Member
+  abbrev chief : Lot → Seat → Judgements → Vec Cone → Member
   chief lot seat judged cones = record { number = 1; lot = lot; seat = seat; judged = judged; kept = []; cones = cones }
 
-  pub gathers_all : (t : ShownTable) (rest : List Member) (o : ℕ) (lot : Lot) (s seat : Seat) (judged : Vec Judged) (cones : Vec Cone)
+  pub gathers_all : (t : ShownTable) (rest : List Member) (o : ℕ) (lot : Lot) (s seat : Seat) (judged : Judgements) (cones : Vec Cone)
       → ((p : Path) → total_found p rest + times p ([] ∷ []) ≡ total_handled p rest)
-      → s ≡ first_seat t → seat ≡ seat_with_out (s.out + o) s → length rest ≡ o → judged.items ≡ [] → cones.items ≡ [] → lot ≡ new_lot lot.deque
+      → s ≡ first_seat t → seat ≡ seat_with_out (s.out + o) s → length rest ≡ o → AreNone judged → cones.items ≡ [] → lot ≡ new_lot lot.deque
       → HasGathered m n q d t.id rest (chief lot seat judged cones)
   gathers_all t rest o lot s seat judged cones sums fs ss many js cs l = record {
     counts = λ p.
@@ -216,11 +234,11 @@ module _ (m : Mode) (n : ℕ) (q : Matrix) (d : ℕ) where
         let a : times p lot.put ≡ times p [] = ap (λ (x : Lot). times p x.put) l in
         let b : times p lot.popped ≡ times p [] = ap (λ (x : Lot). times p x.popped) l in
         let c : token_taken p lot.tokens ≡ 0 = ap (λ (x : Lot). token_taken p x.tokens) l in
-        let e : times p (paths judged.items) ≡ times p [] = ap (λ (x : List Judged). times p (paths x)) js in
-        let f : times p (below_splits judged.items) ≡ times p [] = ap (λ (x : List Judged). times p (below_splits x)) js in
+        let e : times p (paths judged.items) ≡ times p [] = ap (λ (x : List Judged). times p (paths x)) js.items in
+        let f : times p (below_splits judged.items) ≡ times p [] = ap (λ (x : List Judged). times p (below_splits x)) js.items in
         let z = times_none p in
         omega arith;
-    judged = none_judged m n q d seat judged.items (ap (λ (x : Seat). x.given) ss ∙ ap (λ (x : Seat). x.given) fs) js;
+    judged = none_judged m n q d seat judged (ap (λ (x : Seat). x.given) ss ∙ ap (λ (x : Seat). x.given) fs) js;
     cones = λ y there. absurd (nothing_in y (subst (λ (x : List ShownCone). Contains x y) cs there));
     none = refl;
     number = refl;
@@ -234,9 +252,9 @@ module _ (m : Mode) (n : ℕ) (q : Matrix) (d : ℕ) where
     tokens = ap (λ (x : Lot). x.tokens) l;
   }
 
-  pub gathers_back : (t : ShownTable) (all rest : List Member) (o : ℕ) (lot : Lot) (s seat : Seat) (judged : Vec Judged) (cones : Vec Cone) → all ≡ rest
+  pub gathers_back : (t : ShownTable) (all rest : List Member) (o : ℕ) (lot : Lot) (s seat : Seat) (judged : Judgements) (cones : Vec Cone) → all ≡ rest
       → ((p : Path) → total_found p rest + times p ([] ∷ []) ≡ total_handled p rest)
-      → s ≡ first_seat t → seat ≡ seat_with_out (s.out + o) s → length rest ≡ o → judged.items ≡ [] → cones.items ≡ [] → lot ≡ new_lot lot.deque
+      → s ≡ first_seat t → seat ≡ seat_with_out (s.out + o) s → length rest ≡ o → AreNone judged → cones.items ≡ [] → lot ≡ new_lot lot.deque
       → HasGathered m n q d t.id all (chief lot seat judged cones)
   gathers_back t all rest o lot s seat judged cones e sums fs ss many js cs l =
       subst (λ (x : List Member). HasGathered m n q d t.id x (chief lot seat judged cones)) (sym e)

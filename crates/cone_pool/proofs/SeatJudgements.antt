@@ -7,10 +7,9 @@ use Rattle.unimodular_cone.specs.Cones.{Matrix}
 use Rattle.search_core.specs.declared.Judged.{Judged}
 use Rattle.search_core.specs.Fair.{code, IsJudgement}
 use Rattle.bound_word.specs.Seats.{Seat, greatest_word, after_offer, joined_seat}
+use Rattle.cone_pool.specs.Keeping.{Judgements, AreNone, IsSameList, IsNoted, IsAppended}
 use Rattle.cone_pool.specs.Parts.{AreJudgedAt}
-
-pub nothing_in : {X : Type 0} (x : X) → Contains [] x → ⊥
-nothing_in x (k, l, e) = omega arith
+use Rattle.cone_pool.proofs.Keeping.{nothing_in, none_kept, same_kept, one_kept, both_kept}
 
 pub lesser : (a b : ℕ) → (min a b ≡ a) ⊎ (min a b ≡ b)
 lesser a b = grind arith
@@ -22,22 +21,41 @@ module _ (m : Mode) (n : ℕ) (q : Matrix) (d : ℕ) where
   pub lower_told : (old new : ℕ) (j : Judged) → new ≤ old → IsJudgement m n q d old j → IsJudgement m n q d new j
   lower_told old new j le h = record { least = h.least; fate = h.fate; above_final = le_trans le h.above_final; below_code = h.below_code }
 
-  pub none_judged : (seat : Seat) (js : List Judged) → seat.given ≡ greatest_word → js ≡ [] → AreJudgedAt m n q d seat js
+  pub none_judged : (seat : Seat) (js : Judgements) → seat.given ≡ greatest_word → AreNone js → AreJudgedAt m n q d seat js
   none_judged seat js given none = record {
-    judgements = λ j there. absurd (nothing_in j (subst (λ (l : List Judged). Contains l j) none there));
-    given_below = λ j there. absurd (nothing_in j (subst (λ (l : List Judged). Contains l j) none there));
+    judgements = λ j there. absurd (nothing_in j (subst (λ (l : List Judged). Contains l j) none.items there));
+    given_below = λ j there. absurd (nothing_in j (subst (λ (l : List Judged). Contains l j) none.items there));
     given_is = inl given;
+    keeps = none_kept m seat.told js none;
+  }
+
+  pub same_judged : (seat : Seat) (old new : Judgements) → IsSameList old new → AreJudgedAt m n q d seat old → AreJudgedAt m n q d seat new
+  same_judged seat old new same h = record {
+    judgements = λ j there. h.judgements j (subst (λ (l : List Judged). Contains l j) same.items there);
+    given_below = λ j there. h.given_below j (subst (λ (l : List Judged). Contains l j) same.items there);
+    given_is = subst (IsGiven seat.given) (sym same.items) h.given_is;
+    keeps = same_kept m seat.told old new same h.keeps;
   }
 
   -- one more judgement, under the word that an offer was answered
-  pub one_judged : (seat : Seat) (js new : List Judged) (offered word : ℕ) (j : Judged) → AreJudgedAt m n q d seat js → IsJudgement m n q d word j
-      → word ≤ seat.told → offered ≡ code m n q j.path → new ≡ js ++ j ∷ [] → AreJudgedAt m n q d (after_offer seat offered word) new
-  one_judged seat js new offered word j h mine low coded pushed = record {
+  pub one_judged : (seat : Seat) (old now : Judgements) (offered word : ℕ) (j : Judged) → AreJudgedAt m n q d seat old → IsJudgement m n q d word j
+      → word ≤ seat.told → offered ≡ code m n q j.path → IsNoted m word j old now → AreJudgedAt m n q d (after_offer seat offered word) now
+  one_judged seat old now offered word j h mine low coded noted = record {
     judgements = λ k there. judged k (cases k there);
     given_below = λ k there. below k (cases k there);
     given_is = is (lesser seat.given offered) h.given_is;
+    keeps = one_kept m seat.told word j old now low noted h.keeps;
   }
     where
+      js : List Judged
+      js = old.items
+
+      new : List Judged
+      new = now.items
+
+      pushed : new ≡ js ++ j ∷ []
+      pushed = noted.items
+
       cases : (k : Judged) → Contains new k → Contains js k ⊎ (j ≡ k)
       cases k there = Contains-push_cases js j k (subst (λ (l : List Judged). Contains l k) pushed there)
 
@@ -55,14 +73,27 @@ module _ (m : Mode) (n : ℕ) (q : Matrix) (d : ℕ) where
       is (inl e) (inr (i, old, f)) = inr (i, subst (λ (l : List Judged). Contains l i) (sym pushed) (Contains-append_left js (j ∷ []) i old), e ∙ f)
 
   -- two seats are joined, and their judgements appended
-  pub both_judged : (s t u : Seat) (js ks new : List Judged) → u ≡ joined_seat s t → new ≡ js ++ ks → AreJudgedAt m n q d s js → AreJudgedAt m n q d t ks
-      → AreJudgedAt m n q d u new
-  both_judged s t u js ks new joined appended h g = record {
+  pub both_judged : (s t u : Seat) (old more now : Judgements) → u ≡ joined_seat s t → more.whole ≡ old.whole → IsAppended more old now
+      → AreJudgedAt m n q d s old → AreJudgedAt m n q d t more → AreJudgedAt m n q d u now
+  both_judged s t u old more now joined alike both h g = record {
     judgements = λ j there. judged j (cases j there);
     given_below = λ j there. below j (cases j there);
     given_is = subst (λ (r : Seat). IsGiven r.given new) (sym joined) (is (lesser s.given t.given) h.given_is g.given_is);
+    keeps = both_kept m s.told t.told u.told more old now (let a = told in omega arith) (let a = told in omega arith) alike both h.keeps g.keeps;
   }
     where
+      js : List Judged
+      js = old.items
+
+      ks : List Judged
+      ks = more.items
+
+      new : List Judged
+      new = now.items
+
+      appended : new ≡ js ++ ks
+      appended = both.items
+
       told : u.told ≡ min s.told t.told
       told = ap (λ (r : Seat). r.told) joined
 

@@ -24,7 +24,7 @@ pub same_seat : (s : Seat) → IsSameSeat s s
 same_seat s = record { table = refl; first = refl; out = refl }
 
 pub same_member : (w : Member) → IsSameMember w w
-same_member w = record { number = refl; seat = same_seat w.seat; deque = refl; out = refl; tokens = refl }
+same_member w = record { number = refl; seat = same_seat w.seat; deque = refl; out = refl; tokens = refl; whole = refl }
 
 pub then_same : (a b c : Member) → IsSameMember a b → IsSameMember b c → IsSameMember a c
 then_same a b c h g = record {
@@ -33,6 +33,7 @@ then_same a b c h g = record {
   deque = g.deque ∙ h.deque;
   out = g.out ∙ h.out;
   tokens = g.tokens ∙ h.tokens;
+  whole = g.whole ∙ h.whole;
 }
 
 pub took_nothing : (w : Member) → TakesOnly [] w w
@@ -61,7 +62,7 @@ pub popped : (w : Member) (r : Option Path) (lot : Lot)
     → MatchOption r ((lot ≡ w.lot) × IsEmptied w.lot) (λ path. IsPopped path w.lot lot × IsNoMoreThanPut lot) → TakesOnly (option_to_list r) w (with_lot w lot)
 popped w None lot h = subst (λ (l : Lot). TakesOnly [] w (with_lot w l)) (sym h.0) (took_nothing w)
 popped w (Some path) lot h = subst (λ (l : Lot). TakesOnly (path ∷ []) w (with_lot w l)) (sym h.0) record {
-  same = record { number = refl; seat = same_seat w.seat; deque = refl; out = refl; tokens = refl };
+  same = record { number = refl; seat = same_seat w.seat; deque = refl; out = refl; tokens = refl; whole = refl };
   counts = λ p. omega (arith, times-append p w.lot.popped (path ∷ []));
   put = refl;
   seat = refl;
@@ -93,6 +94,7 @@ stolen w k (Some path) lot l h =
         deque = h.deque;
         out = h.out;
         tokens = ap (map deque_of) h.tokens ∙ deques_set w.lot.tokens k h.token (new_token w.lot.deque) l (ap deque_of h.by);
+        whole = refl;
       };
       counts = λ p.
           let a = tokens_set p w.lot.tokens k h.token (new_token w.lot.deque) l in

@@ -13,20 +13,21 @@
 --     IsNewWorker t number w a worker of that number that did nothing yet: its seat is of the table t, its deque has
 --                            what the worker of that number begins with, and it has no token
 --     AreNewWorkers t number ws  each is new; they have this number and those after it, in order
-use Rattle.std.specs.Prelude.{◌≡◌, false, ℕ, zero, suc, ◌+◌, List, [], ◌∷◌, map}
+--     AllKeep whole ws       each keeps the whole list of its judgements, or none does
+use Rattle.std.specs.Prelude.{◌≡◌, Bool, false, ℕ, zero, suc, ◌+◌, List, [], ◌∷◌, map}
 use Rattle.std.specs.Global.{Vec}
 use Rattle.unimodular_cone.specs.declared.Cone.{Cone}
 use Rattle.unimodular_cone.specs.Paths.{Path}
-use Rattle.search_core.specs.declared.Judged.{Judged}
 use Rattle.search_core.specs.Machine.{times}
 use Rattle.bound_word.specs.Seats.{TableId, Seat, greatest_word}
 use Rattle.cone_pool.specs.Lots.{Deque, Token, Lot, deque_of, token_taken}
+use Rattle.cone_pool.specs.Keeping.{Judgements, AreNone}
 use Rattle.cone_pool.specs.Parts.{Member, given_to}
 
 pub record MemberRest : Type 0 where
   pub number : ℕ
   pub seat : Seat
-  pub judged : Vec Judged
+  pub judged : Judgements
   pub kept : List Path
   pub cones : Vec Cone
 
@@ -73,7 +74,7 @@ pub record IsNewWorker (table : TableId) (number : ℕ) (w : Member) : Type 0 wh
   pub table_is : w.seat.table ≡ table
   pub second : w.seat.first ≡ false
   pub given : w.seat.given ≡ greatest_word
-  pub judged : w.judged.items ≡ []
+  pub judged : AreNone w.judged
   pub kept : w.kept ≡ []
   pub cones : w.cones.items ≡ []
   pub lot : w.lot ≡ opening_lot number w.lot.deque
@@ -81,3 +82,7 @@ pub record IsNewWorker (table : TableId) (number : ℕ) (w : Member) : Type 0 wh
 abbrev pub AreNewWorkers : TableId → ℕ → List Member → Type 0
 AreNewWorkers table number [] = Unit {0}
 AreNewWorkers table number (w ∷ ws) = IsNewWorker table number w × AreNewWorkers table (suc number) ws
+
+abbrev pub AllKeep : Bool → List Member → Type 0
+AllKeep whole [] = Unit {0}
+AllKeep whole (w ∷ ws) = (w.judged.whole ≡ whole) × AllKeep whole ws

@@ -1,4 +1,5 @@
 pub mod Deques
+pub mod Keeping
 pub mod Lots
 pub mod Parts
 pub mod Turns

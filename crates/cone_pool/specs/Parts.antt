@@ -8,12 +8,14 @@
 --     times_handled p w      how often p left its hand: judged, put or kept
 --     total_found p ws, total_handled p ws  of each worker, added up
 --     AreJudgedAt m n q d seat js  each judgement is right, under a word that is at least what the seat was told; the
---                            seat gave at most each judged code, and one of them or nothing
+--                            seat gave at most each judged code, and one of them or nothing; what is kept of them has
+--                            what an answer may look at, where the final word is at most what the seat was told
 --     AreCones n q d cones   each is the cone at its path, which has at most d digits
 --     IsWorkerPart m n q d hand w  path by path, what came to the worker is what left or is in its hand; its
 --                            judgements are those of its seat, and its cones are cones
 --     deques_of thieves      the deques that they take from
---     IsSameMember old new   the same number, the same seat of the same table, and the same deque and tokens
+--     IsSameMember old new   the same number, the same seat of the same table, and the same deque and tokens; of its
+--                            judgements it keeps the whole list as before, or not
 --     TakesOnly paths old new  the worker took the paths, and is otherwise the same
 --     IsSafe paths s k t l   each of the paths was put into the lot s or kept beside k, which became t and l
 --     IsFateOnTop m d f cones  f is the fate of the cone on top, with limit d, under some word
@@ -27,7 +29,7 @@
 --     IsMerged w old new     the coordinator after it took over all that the worker w left
 --     IsReturned m n q d t w a worker that ended, with no token and no pass on its deque in use
 --     HasGathered m n q d t rest w  the coordinator w has taken over all workers but the rest
-use Rattle.std.specs.Prelude.{◌≡◌, true, false, ℕ, zero, suc, ◌+◌, ◌≤◌, ◌⊎◌, List, [], ◌∷◌, ◌++◌, length, map}
+use Rattle.std.specs.Prelude.{◌≡◌, true, false, ℕ, zero, suc, ◌+◌, ◌≤◌, ◌⊎◌, List, [], ◌∷◌, length, map}
 use Rattle.std.specs.List.{Contains}
 use Rattle.std.specs.Global.{Global}
 use Rattle.crossbeam_deque.specs.declared.handles.Stealer.{Stealer}
@@ -46,6 +48,7 @@ use Rattle.cone_pool.specs.declared.rule.Account.{Account}
 use Rattle.cone_pool.specs.declared.rule.EachOnce.{EachOnce}
 use Rattle.cone_pool.specs.Lots.{Deque, Lot, deque_of, token_taken}
 use Rattle.cone_pool.specs.Turns.{IsOnTop}
+use Rattle.cone_pool.specs.Keeping.{Judgements, KeepsRelevant, IsAppended}
 pub use Rattle.cone_pool.specs.declared.member.Member.{Member}
 
 abbrev pub given_to : ℕ → List Path
@@ -70,17 +73,18 @@ abbrev pub total_handled : Path → List Member → ℕ
 total_handled p [] = 0
 total_handled p (w ∷ ws) = times_handled p w + total_handled p ws
 
-pub record AreJudgedAt (m : Mode) (n : ℕ) (q : Matrix) (d : ℕ) (seat : Seat) (js : List Judged) : Type 0 where
-  pub judgements : (j : Judged) → Contains js j → IsJudgement m n q d seat.told j
-  pub given_below : (j : Judged) → Contains js j → seat.given ≤ code m n q j.path
-  pub given_is : (seat.given ≡ greatest_word) ⊎ ((j : Judged) × Contains js j × (seat.given ≡ code m n q j.path))
+pub record AreJudgedAt (m : Mode) (n : ℕ) (q : Matrix) (d : ℕ) (seat : Seat) (js : Judgements) : Type 0 where
+  pub judgements : (j : Judged) → Contains js.items j → IsJudgement m n q d seat.told j
+  pub given_below : (j : Judged) → Contains js.items j → seat.given ≤ code m n q j.path
+  pub given_is : (seat.given ≡ greatest_word) ⊎ ((j : Judged) × Contains js.items j × (seat.given ≡ code m n q j.path))
+  pub keeps : KeepsRelevant m seat.told js
 
 abbrev pub AreCones : ℕ → Matrix → ℕ → List ShownCone → Type 0
 AreCones n q d cones = (c : ShownCone) → Contains cones c → IsConeAt n q c.path c × (length c.path ≤ d)
 
 pub record IsWorkerPart (m : Mode) (n : ℕ) (q : Matrix) (d : ℕ) (hand : List Path) (w : Member) : Type 0 where
   pub counts : (p : Path) → times_received p w ≡ times_handled p w + times p hand
-  pub judged : AreJudgedAt m n q d w.seat w.judged.items
+  pub judged : AreJudgedAt m n q d w.seat w.judged
   pub cones : AreCones n q d w.cones.items
   pub room : length w.kept + length hand ≤ 2
 
@@ -93,6 +97,7 @@ pub record IsSameMember (old new : Member) : Type 0 where
   pub deque : new.lot.deque ≡ old.lot.deque
   pub out : new.lot.out ≡ old.lot.out
   pub tokens : map deque_of new.lot.tokens ≡ map deque_of old.lot.tokens
+  pub whole : new.judged.whole ≡ old.judged.whole
 
 pub record TakesOnly (taken : List Path) (old new : Member) : Type 0 where
   pub same : IsSameMember old new
@@ -120,6 +125,7 @@ pub record IsJudgedAlone (old new : Member) : Type 0 where
   pub number : new.number ≡ old.number
   pub seat : IsSameSeat old.seat new.seat
   pub lot : new.lot ≡ old.lot
+  pub whole : new.judged.whole ≡ old.judged.whole
   pub kept : new.kept ≡ old.kept
   pub cones : new.cones ≡ old.cones
 
@@ -145,7 +151,7 @@ pub record IsDrained (source s t : Lot) : Type 0 where
 pub record IsMerged (w old new : Member) : Type 0 where
   pub counts : (p : Path) → times_received p new + times_handled p old + times_handled p w
       ≡ times_handled p new + times_received p old + times_found p w
-  pub judged : new.judged.items ≡ old.judged.items ++ w.judged.items
+  pub judged : IsAppended w.judged old.judged new.judged
   pub seat : new.seat ≡ joined_seat old.seat w.seat
   pub number : new.number ≡ old.number
   pub deque : new.lot.deque ≡ old.lot.deque
@@ -159,12 +165,12 @@ pub record IsReturned (m : Mode) (n : ℕ) (q : Matrix) (d : ℕ) (table : Table
   pub second : w.seat.first ≡ false
   pub out : w.lot.out ≡ 0
   pub tokens : w.lot.tokens ≡ []
-  pub judged : AreJudgedAt m n q d w.seat w.judged.items
+  pub judged : AreJudgedAt m n q d w.seat w.judged
 
 pub record HasGathered (m : Mode) (n : ℕ) (q : Matrix) (d : ℕ)
     (table : TableId) (rest : List Member) (w : Member) : Type 0 where
   pub counts : (p : Path) → total_found p rest + times_received p w ≡ total_handled p rest + times_handled p w
-  pub judged : AreJudgedAt m n q d w.seat w.judged.items
+  pub judged : AreJudgedAt m n q d w.seat w.judged
   pub cones : AreCones n q d w.cones.items
   pub none : w.kept ≡ []
   pub number : w.number ≡ 1

@@ -4,7 +4,8 @@ ghost use Rattle.std.specs.Prelude.{◌≡◌, ◌<◌, ◌≤◌, ◌-◌, ◌^
 ghost use Rattle.std.specs.List.{Contains};
 ghost use Rattle.symmetric_matrix.specs.Symmetric.{entry};
 ghost use Rattle.unimodular_cone.specs.Cones.{Fits, unit_vectors};
-ghost use Rattle.search_core.specs.Fair.{start_word, IsFair};
+ghost use Rattle.search_core.specs.Fair.{start_word, IsFair, IsFairPart};
+ghost use Rattle.cone_pool.specs.Crews.{AllKeep};
 ghost use Rattle.cone_pool.specs.Parts.{Member, IsDrained, IsSafe, IsMerged, IsReturned, HasGathered};
 
 use crate::kept::Kept;
@@ -57,6 +58,7 @@ pub(crate) fn merge(
     requires tables { (chief.old.seat.table ≡ table.now.id) × (member.seat.table ≡ table.now.id) }
     requires first { chief.old.seat.first ≡ true }
     requires second { member.seat.first ≡ false }
+    requires whole { member.judged.whole ≡ chief.old.judged.whole }
     requires out { member.lot.out ≡ 0 }
     requires tokens { member.lot.tokens ≡ [] }
     ensures { OnOk result (IsMerged member chief.old chief.new) }
@@ -65,13 +67,13 @@ pub(crate) fn merge(
         number: _,
         mut lot,
         seat,
-        mut judged,
+        judged,
         mut kept,
         cones: _,
     } = member;
     drain(&mut lot, &mut chief.lot)?;
     unkeep(&mut kept, &mut chief.lot)?;
-    chief.judged.append(&mut judged)?;
+    chief.judged.append(judged)?;
     table.join(&mut chief.seat, seat);
     Ok(())
 }
@@ -87,8 +89,10 @@ pub(crate) fn gather(
 ) -> Result<(), AllocError>
     requires returned { (w : Member) → Contains members.items w
         → IsReturned mode q.now.size (entry q.now) limit table.now.id w }
+    requires alike { AllKeep chief.old.judged.whole members.items }
     requires gathered { HasGathered mode q.now.size (entry q.now) limit table.now.id members.items chief.old }
-    ensures { OnOk result (HasGathered mode q.now.size (entry q.now) limit table.now.id [] chief.new) }
+    ensures gathered { OnOk result (HasGathered mode q.now.size (entry q.now) limit table.now.id [] chief.new) }
+    ensures whole { OnOk result (chief.new.judged.whole ≡ chief.old.judged.whole) }
 {
     let mut rest = members;
     while let Some(member) = rest.pop() {
@@ -97,7 +101,7 @@ pub(crate) fn gather(
     Ok(())
 }
 
-/// Judges what is left, closes the table, and gives what was judged.
+/// Judges what is left, closes the table, and gives what was kept of the judgements.
 pub(crate) fn conclude(
     chief: Member,
     mode: Mode,
@@ -110,7 +114,9 @@ pub(crate) fn conclude(
     requires start { table.start ≡ start_word mode q.now.size (entry q.now) }
     requires small { table.start ≤ 2 ^ 64 - 1 }
     requires gathered { HasGathered mode q.now.size (entry q.now) limit table.id [] chief }
-    ensures { IfOk result (λ pooled. IsFair mode q.now.size (entry q.now) limit pooled.judged.items pooled.final_word) }
+    ensures part { IfOk result (λ pooled. IsFairPart mode q.now.size (entry q.now) limit pooled.judged.items pooled.final_word) }
+    ensures whole { chief.judged.whole ≡ true → IfOk result
+        (λ pooled. IsFair mode q.now.size (entry q.now) limit pooled.judged.items pooled.final_word) }
 {
     let mut chief = chief;
     chief.finish(mode, q, limit, &table)?;
@@ -124,7 +130,7 @@ pub(crate) fn conclude(
     } = chief;
     let last = table.close(seat);
     Ok(Pooled {
-        judged,
+        judged: judged.into_kept(),
         final_word: last.word,
     })
 }

@@ -5,6 +5,8 @@ mod crew;
 mod gate;
 mod gathering;
 mod hiring;
+mod history;
+mod judgements;
 mod kept;
 mod lending;
 mod lot;
@@ -19,5 +21,5 @@ mod tests;
 mod token;
 
 pub use gate::{Gate, OpenGate};
-pub use pool::run_pool;
+pub use pool::{run_pool, run_pool_part};
 pub use pooled::Pooled;

@@ -1,9 +1,10 @@
 //! A worker, and how it takes a path.
 
-ghost use Rattle.std.specs.Prelude.{◌≡◌, ◌<◌, ◌≤◌, [], ◌∷◌, ◌++◌, map, IsTrue, OnOk, vec_len, vec_capacity};
+ghost use Rattle.std.specs.Prelude.{◌≡◌, ◌≤◌, [], ◌∷◌, map, IsTrue, OnOk};
 ghost use Rattle.symmetric_matrix.specs.Symmetric.{entry};
 ghost use Rattle.search_core.specs.Machine.{children_of};
 ghost use Rattle.unimodular_cone.specs.Cones.{Fits, unit_vectors};
+ghost use Rattle.cone_pool.specs.Keeping.{HasRoom};
 ghost use Rattle.cone_pool.specs.Lots.{IsEmptied, deque_of};
 ghost use Rattle.cone_pool.specs.Turns.{IsTopAt};
 ghost use Rattle.std.specs.Option.{option_to_list};
@@ -11,13 +12,14 @@ ghost use Rattle.crossbeam_deque.specs.Handles.{stealer_deque};
 ghost use Rattle.cone_pool.specs.Parts.{TakesOnly, deques_of, IsWorkerPart, IsFateOnTop, IsJudgedAlone, IsSameMember};
 
 use crate::gate::Gate;
+use crate::judgements::Judgements;
 use crate::kept::Kept;
 use crate::lot::Lot;
 use crate::opening::put_children;
 use crate::rule::Thief;
 use crate::stack::{reach, ready, turned};
 use bound_word::{BoundSeat, BoundTable};
-use search_core::{Fate, Judged, Mode, code, judgement};
+use search_core::{Fate, Mode, code, judgement};
 use std::alloc::AllocError;
 use std::thread;
 use symmetric_matrix::SymInt;
@@ -34,22 +36,9 @@ pub(crate) struct Member {
     pub(crate) number: usize,
     pub(crate) lot: Lot,
     pub(crate) seat: BoundSeat,
-    pub(crate) judged: Vec<Judged>,
+    pub(crate) judged: Judgements,
     pub(crate) kept: Kept,
     pub(crate) cones: Vec<Cone>,
-}
-
-/// Puts a judgement on the list, which has room.
-fn note(judged: &mut Vec<Judged>, j: Judged)
-    requires { vec_len judged.old < vec_capacity judged.old }
-    ensures { judged.new.items ≡ judged.old.items ++ j ∷ [] }
-{
-    // Field by field, since the prover makes no proof of a push of the whole.
-    judged.push_reserved(Judged {
-        path: j.path,
-        fate: j.fate,
-        least: j.least,
-    });
 }
 
 /// A cone is judged, and the children of a Split are unfinished.
@@ -124,7 +113,7 @@ impl Member {
     fn judge(&mut self, mode: Mode, q: &SymInt, limit: u8, table: &BoundTable, path: &Path) -> Fate
         requires limited { limit ≤ 200 }
         requires table { self.old.seat.table ≡ table.now.id }
-        requires room { vec_len self.old.judged < vec_capacity self.old.judged }
+        requires room { HasRoom self.old.judged }
         requires none { self.old.kept ≡ [] }
         requires top { IsTopAt path.now self.old.cones.items }
         requires part { IsWorkerPart mode q.now.size (entry q.now) limit (path.now ∷ []) self.old }
@@ -139,7 +128,7 @@ impl Member {
         let word = table.offer(&mut self.seat, code(mode, cone));
         let j = judgement(mode, cone, limit, word);
         let fate = j.fate;
-        note(&mut self.judged, j);
+        self.judged.note(mode, j, word);
         fate
     }
 
@@ -164,7 +153,7 @@ impl Member {
     fn treat(&mut self, mode: Mode, q: &SymInt, limit: u8, table: &BoundTable, path: &Path) -> bool
         requires limited { limit ≤ 200 }
         requires table { self.old.seat.table ≡ table.now.id }
-        requires room { vec_len self.old.judged < vec_capacity self.old.judged }
+        requires room { HasRoom self.old.judged }
         requires none { self.old.kept ≡ [] }
         requires top { IsTopAt path.now self.old.cones.items }
         requires part { IsWorkerPart mode q.now.size (entry q.now) limit (path.now ∷ []) self.old }
@@ -184,7 +173,7 @@ impl Member {
     fn handle(&mut self, mode: Mode, q: &SymInt, limit: u8, table: &BoundTable, path: Path) -> bool
         requires limited { limit ≤ 200 }
         requires table { self.old.seat.table ≡ table.now.id }
-        requires room { vec_len self.old.judged < vec_capacity self.old.judged }
+        requires room { HasRoom self.old.judged }
         requires none { self.old.kept ≡ [] }
         requires part { IsWorkerPart mode q.now.size (entry q.now) limit (path ∷ []) self.old }
         ensures part { IsWorkerPart mode q.now.size (entry q.now) limit [] self.new }
@@ -218,7 +207,7 @@ impl Member {
         ensures same { IsSameMember self.old self.new }
         ensures none { IsTrue result → self.new.kept ≡ [] }
     {
-        if self.judged.reserve(1).is_err() {
+        if self.judged.reserve().is_err() {
             return false;
         }
         match self.take(table, thieves) {
@@ -248,7 +237,7 @@ impl Member {
         ensures done { OnOk result (IsEmptied self.new.lot × (self.new.kept ≡ [])) }
     {
         for _ in 0..u64::MAX {
-            self.judged.reserve(1)?;
+            self.judged.reserve()?;
             match self.lot.pop() {
                 Some(path) => {
                     ready(&mut self.cones, q, limit, &path)?;

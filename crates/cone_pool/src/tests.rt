@@ -5,7 +5,7 @@ ghost use Rattle.symmetric_matrix.specs.Symmetric.{entry};
 ghost use Rattle.unimodular_cone.specs.Answer.{BoundFits};
 ghost use Rattle.unimodular_cone.specs.Cones.{Fits, unit_vectors};
 
-use crate::{Gate, OpenGate, Pooled, run_pool};
+use crate::{Gate, OpenGate, Pooled, run_pool, run_pool_part};
 use search_core::{Fate, Least, Mode, least_diagonal, settle_least};
 use std::alloc::{AllocError, Global};
 use std::process::Abort;
@@ -160,6 +160,24 @@ fn searched<R: Threads + Wait + Sync, G: Gate + Sync>(
     }
 }
 
+/// What the workers keep for an answer of a search for the least value, where the matrix is within the limits.
+fn kept_part<R: Threads + Wait + Sync>(
+    rt: &R,
+    alloc: Global,
+    workers: usize,
+    q: &SymInt,
+    limit: u8,
+) -> Result<Option<Pooled>, AllocError>
+    requires workers { (1 ≤ workers) × (workers ≤ 16) }
+    requires limited { limit ≤ 200 }
+{
+    if bound_fits(q) && root_fits(q) {
+        Ok(Some(run_pool_part(rt, alloc, workers, q, Mode::Least, limit, &OpenGate)?))
+    } else {
+        Ok(None)
+    }
+}
+
 /// What the judgements of two workers settle to, where the matrix is within the limits.
 fn settled<R: Threads + Wait + Sync>(
     rt: &R,
@@ -280,5 +298,21 @@ fn two_workers_settle_to_the_minimum(rt: HostRuntime) -> Result<(), Fail> {
     assert_eq!(rt; vectors.len(), 2);
     assert_vector(&rt, &vectors, 0, &[1, 1, 0]);
     assert_vector(&rt, &vectors, 1, &[1, 2, 0]);
+    Ok(())
+}
+
+#[test]
+fn what_no_answer_looks_at_is_left_out(rt: HostRuntime) -> Result<(), Fail> {
+    let q = two(rt.alloc(), 17, -8, 4)?;
+    for workers in [1, 2, 16] {
+        let Some(pooled) = kept_part(&rt, rt.alloc(), workers, &q, 5)? else {
+            panic!(rt; "the matrix is within the limits")
+        };
+        assert_eq!(rt; pooled.final_word, 257);
+        // The least value of child 1 is 5, and a vector with the value 4 is known from the start.
+        assert_eq!(rt; fate_at(&pooled, Path::root().child(1)), None);
+        // Child 0 of child 0 has the one with the value 1.
+        assert!(rt; fate_at(&pooled, Path::root().child(0).child(0)).is_some());
+    }
     Ok(())
 }

@@ -78,17 +78,23 @@ value_read plain options words name form k none value found =
     ] in
     (lt, sym (read_value plain options words (k + 1) form wants) ∙ read_at plain options words (k + 1) none lt)
 
-number_parts : (low high : ℕ) (word : List ℕ) → has_form (Number low high) word ≡ true → (is_numeral word ≡ true) × (digits_value 10 word ≤ high)
+number_parts : (low high : ℕ) (word : List ℕ) → has_form (Number low high) word ≡ true
+    → (is_numeral word ≡ true) × (low ≤ digits_value 10 word) × (digits_value 10 word ≤ high)
 unfolding has_form
 number_parts low high word fits =
     let parts = and_parts (is_numeral word && nat_le low (digits_value 10 word)) (nat_le (digits_value 10 word) high) fits in
-    ((and_parts (is_numeral word) (nat_le low (digits_value 10 word)) parts.0).0, leb-true (digits_value 10 word) high parts.1)
+    let first = and_parts (is_numeral word) (nat_le low (digits_value 10 word)) parts.0 in
+    (first.0, leb-true low (digits_value 10 word) first.1, leb-true (digits_value 10 word) high parts.1)
+
+-- such a number is in its range
+pub number_within : (low high : ℕ) (word : List ℕ) → has_form (Number low high) word ≡ true → (low ≤ digits_value 10 word) × (digits_value 10 word ≤ high)
+number_within low high word fits = let parts = number_parts low high word fits in (parts.1, parts.2)
 
 -- a word with the form of a number of 64 bits is read as that number
 pub number_read : (low high : ℕ) (word : List ℕ) (n : Option ℕ) → high < 2 ^ 64 → has_form (Number low high) word ≡ true → MatchOption n (is_numeral word ≡ true → 2 ^ 64 ≤ digits_value 10 word) (λ v. (is_numeral word ≡ true) × (v ≡ digits_value 10 word)) → n ≡ Some (digits_value 10 word)
 number_read low high word None fits form large =
     let parts = number_parts low high word form in
-    absurd (omega (arith, large parts.0, parts.1, fits))
+    absurd (omega (arith, large parts.0, parts.2, fits))
 number_read low high word (Some v) fits form is = ap Some is.1
 
 option_value-given : (words : List (List ℕ)) (name : List ℕ) (default k : ℕ) → position (λ word. bytes_eq word name) words ≡ Some k → option_value words name default ≡ digits_value 10 (word_at words (k + 1))
@@ -99,13 +105,18 @@ pub option_value-none : (words : List (List ℕ)) (name : List ℕ) (default : �
 unfolding option_value
 option_value-none words name default found = rw found refl
 
--- it is within its range
-pub option_value-le : (plain : List Form) (options : List OptionRow) (words : List (List ℕ)) (name : List ℕ) (default low high : ℕ) → fault_place plain options words ≡ None → option_and_then (λ o. o.value) (option_named options name) ≡ Some (Number low high) → default ≤ high → option_value words name default ≤ high
-option_value-le plain options words name default low high none value le = by (position (λ word. bytes_eq word name) words) refl
+-- the number that an option gives is in the range of the option's row, as the default is
+pub option_value-within : (plain : List Form) (options : List OptionRow) (words : List (List ℕ)) (name : List ℕ) (default low high : ℕ)
+    → fault_place plain options words ≡ None → option_and_then (λ o. o.value) (option_named options name) ≡ Some (Number low high)
+    → low ≤ default → default ≤ high → (low ≤ option_value words name default) × (option_value words name default ≤ high)
+option_value-within plain options words name default low high none value above below = by (position (λ word. bytes_eq word name) words) refl
   where
-    by : (place : Option ℕ) → position (λ word. bytes_eq word name) words ≡ place → option_value words name default ≤ high
-    by None found = rw (option_value-none words name default found) le
-    by (Some k) found = rw (option_value-given words name default k found) (number_parts low high (word_at words (k + 1)) (value_read plain options words name (Number low high) k none value found).1).1
+    by : (place : Option ℕ) → position (λ word. bytes_eq word name) words ≡ place
+        → (low ≤ option_value words name default) × (option_value words name default ≤ high)
+    by None found = rw (option_value-none words name default found) (above, below)
+    by (Some k) found =
+        let read = value_read plain options words name (Number low high) k none value found in
+        rw (option_value-given words name default k found) (number_within low high (word_at words (k + 1)) read.1)
 
 position_or_len-texts : (words : List (String Global)) (name : List ℕ) → position_or_len (λ word. bytes_eq word name) (texts words) ≡ position_or_len (λ w. bytes_eq (string_bytes w) name) words
 position_or_len-texts [] name = refl

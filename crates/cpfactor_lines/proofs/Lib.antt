@@ -1,6 +1,7 @@
 pub mod LineLemmas
 pub mod Fronts
 pub mod Comments
+pub mod Summaries
 pub mod SkippedTraces
 pub mod Listings
 pub mod FaultPlaces

@@ -1,6 +1,7 @@
 pub mod Lines
 pub mod Texts
 pub mod Traces
+pub mod SampleTexts
 pub mod Sinks
 pub mod Arguments
 pub mod Commands

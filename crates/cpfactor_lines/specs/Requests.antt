@@ -8,17 +8,18 @@
 --     options_of row       its options
 --     plain_places options words k     the places of the plain arguments before place k
 --     IsNumberOption options name      the name is that of an option with a number
-use Rattle.std.specs.Prelude.{◌≡◌, ℕ, ◌<◌, ◌^◌, List, Some, map, filter, option_map, String}
+--     IsNumberAt words k       the word at place k has the form of a number
+use Rattle.std.specs.Prelude.{◌≡◌, ℕ, ◌<◌, ◌^◌, true, List, Some, map, filter, option_map, String}
 use Rattle.std.specs.Option.{option_and_then}
 use Rattle.std.specs.Global.{Global}
 use Rattle.std.specs.List.{range_with_len}
 use Rattle.std.specs.String.{string_bytes}
 use Rattle.cpfactor_lines.specs.Commands.{Request}
 use Rattle.cpfactor_lines.specs.Commands as the
-use Rattle.cpfactor_lines.specs.Arguments.{is_plain, option_named}
+use Rattle.cpfactor_lines.specs.Arguments.{has_form, is_plain, option_named, word_at}
 use Rattle.cpfactor_lines.specs.Arguments as of
 use Rattle.cpfactor_lines.specs.declared.command.Command.{Command}
-use Rattle.cpfactor_lines.specs.declared.command.Command.TheVariants.{Solve, Check, Minimum, Copositive}
+use Rattle.cpfactor_lines.specs.declared.command.Command.TheVariants.{Solve, Check, Minimum, Copositive, Sample}
 use Rattle.cpfactor_lines.specs.declared.row.CommandRow.{CommandRow}
 use Rattle.cpfactor_lines.specs.declared.row.OptionRow.{OptionRow}
 use Rattle.cpfactor_lines.specs.declared.row.Form.{Form}
@@ -28,10 +29,11 @@ abbrev pub texts : List (String Global) → List (List ℕ)
 texts words = map string_bytes words
 
 abbrev pub request_of : Command → Request
-request_of (Solve file limits trace) = the.Solve file.now limits trace
+request_of (Solve file limits workers trace) = the.Solve file.now limits workers trace
 request_of (Check file proof) = the.Check file.now proof.now
-request_of (Minimum file depth) = the.Minimum file.now depth
-request_of (Copositive file depth) = the.Copositive file.now depth
+request_of (Minimum file depth workers) = the.Minimum file.now depth workers
+request_of (Copositive file depth workers) = the.Copositive file.now depth workers
+request_of (Sample n k first workers) = the.Sample n k first workers
 
 abbrev pub form_of : Form → of.Form
 form_of FileName = of.FileName
@@ -54,3 +56,7 @@ abbrev pub IsNumberOption : List of.OptionRow → List ℕ → Type 0
 IsNumberOption options name =
     (low : ℕ) × (high : ℕ) × (high < 2 ^ 64)
     × (option_and_then (λ o. o.value) (option_named options name) ≡ Some (of.Number low high))
+
+-- of at most 64 bits
+abbrev pub IsNumberAt : List (List ℕ) → ℕ → Type 0
+IsNumberAt words k = (low : ℕ) × (high : ℕ) × (high < 2 ^ 64) × (has_form (of.Number low high) (word_at words k) ≡ true)

@@ -2,8 +2,9 @@
 
 ghost use Rattle.std.specs.Prelude.{◌≡◌, ◌+◌, ◌*◌, ◌<◌, ◌≤◌, true, length, Some, None, option_map, IfOk, IfErr};
 ghost use Rattle.std.specs.List.{list_all};
-ghost use Rattle.cpfactor_lines.specs.Arguments.{is_option, has_word, can_be_read, fault_place, option_value};
-ghost use Rattle.cpfactor_lines.specs.Requests.{texts, plain_of, options_of, IsNumberOption};
+ghost use Rattle.std.specs.Str.Parse.{digits_value};
+ghost use Rattle.cpfactor_lines.specs.Arguments.{is_option, has_word, can_be_read, fault_place, option_value, word_at};
+ghost use Rattle.cpfactor_lines.specs.Requests.{texts, plain_of, options_of, IsNumberOption, IsNumberAt};
 ghost use Rattle.cpfactor_lines.specs.ReaderStates.{most_plain, HasRead, ArePlaces};
 
 use crate::command::Usage;
@@ -110,4 +111,13 @@ pub fn option_value(row: &CommandRow, words: &[String], name: &str, default: u64
         return default;
     };
     number(&words[place + 1]).unwrap()
+}
+
+/// The number that the word at a place writes, which has the form of a number.
+pub fn number_argument(words: &[String], place: usize) -> u64
+    requires within { place < length words.now }
+    requires number { IsNumberAt (texts words.now) place }
+    ensures { result ≡ digits_value 10 (word_at (texts words.now) place) }
+{
+    number(&words[place]).unwrap()
 }

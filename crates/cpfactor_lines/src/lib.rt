@@ -11,6 +11,7 @@ mod listing;
 mod names;
 mod refusals;
 mod row;
+mod summary;
 #[cfg(test)]
 mod tests;
 mod text;
@@ -28,7 +29,8 @@ pub use factorization::push_factorization;
 pub use line::{Word, words_line};
 pub use perfect_walk::{Limits, Owed};
 pub use refusals::{depth_line, fault_line, owed_line, pivots_line, usage_line};
+pub use summary::sample_lines;
 pub use text::put_lines;
 pub use trace::trace_lines;
 pub use vectors::put_with_vectors;
-pub use words::{read_words, words_are_read_one_way};
+pub use words::{read_words, usual_limits, words_are_read_one_way};

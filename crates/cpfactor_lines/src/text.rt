@@ -7,7 +7,7 @@ ghost use Rattle.cpfactor_lines.specs.Sinks.{IsPut, sink_shown};
 use cp_outside::{PutEnd, Sink};
 
 /// Where the first line feed of a text stands.
-fn line_feed(text: &[u8]) -> Option<usize>
+pub fn line_feed(text: &[u8]) -> Option<usize>
     ensures { result ≡ position is_line_feed text.now }
 {
     text.iter().position(|byte| *byte == b'\n')

@@ -1,11 +1,11 @@
 //! Reading a command line.
 
 ghost use Rattle.std.specs.Prelude.{◌≡◌, ℕ, ◌+◌, ◌≤◌, List, Some, None, Ok, Err, IfOk, IfErr, option_map};
-ghost use Rattle.cpfactor_lines.specs.Arguments.{fault_place, plain_argument};
-ghost use Rattle.cpfactor_lines.specs.Commands.{HasRanges, IsCommandLine, IsUsageAt, IsReadOneWay, read_as, solve, check, minimum, copositive, depth_of, limits_of};
-ghost use Rattle.cpfactor_lines.specs.Requests.{texts, request_of};
+ghost use Rattle.cpfactor_lines.specs.Arguments.{fault_place, option_named, plain_argument};
+ghost use Rattle.cpfactor_lines.specs.Commands.{AreWorkers, HasRanges, IsCommandLine, IsUsageAt, IsReadOneWay, read_as, solve, check, minimum, copositive, sample, workers, depth_of, limits_of, workers_of, usual_limits};
+ghost use Rattle.cpfactor_lines.specs.Requests.{texts, request_of, plain_of, options_of};
 
-use crate::arguments::{is_among, option_value, plain_places};
+use crate::arguments::{is_among, number_argument, option_value, plain_places};
 use crate::command::{Command, Usage};
 use crate::row::{CommandRow, Form, OptionRow};
 use perfect_walk::Limits;
@@ -25,16 +25,22 @@ const DEPTH_OPTION: OptionRow = OptionRow {
     value: Some(Form::Number { low: 0, high: 200 }),
 };
 
+/// How many workers search.
+const WORKERS_OPTION: OptionRow = OptionRow {
+    name: "--workers",
+    value: Some(Form::Number { low: 1, high: 16 }),
+};
+
 /// That the trace of the walk is wanted.
 const TRACE_OPTION: OptionRow = OptionRow {
     name: "--trace",
     value: None,
 };
 
-/// `solve FILE [--pivots N] [--depth N] [--trace]`.
+/// `solve FILE [--pivots N] [--depth N] [--workers N] [--trace]`.
 const SOLVE_ROW: CommandRow = CommandRow {
     plain: &[Form::FileName],
-    options: &[PIVOTS_OPTION, DEPTH_OPTION, TRACE_OPTION],
+    options: &[PIVOTS_OPTION, DEPTH_OPTION, WORKERS_OPTION, TRACE_OPTION],
 };
 
 /// `check FILE PROOF`.
@@ -43,10 +49,26 @@ const CHECK_ROW: CommandRow = CommandRow {
     options: &[],
 };
 
-/// `minimum FILE [--depth N]`, and `copositive` likewise.
+/// `minimum FILE [--depth N] [--workers N]`, and `copositive` likewise.
 const SEARCH_ROW: CommandRow = CommandRow {
     plain: &[Form::FileName],
-    options: &[DEPTH_OPTION],
+    options: &[DEPTH_OPTION, WORKERS_OPTION],
+};
+
+/// `sample N K X [--workers M]`.
+const SAMPLE_ROW: CommandRow = CommandRow {
+    plain: &[
+        Form::Number { low: 1, high: 6 },
+        Form::Number {
+            low: 1,
+            high: 100_000,
+        },
+        Form::Number {
+            low: 0,
+            high: u64::MAX,
+        },
+    ],
+    options: &[WORKERS_OPTION],
 };
 
 /// The limit of the walk's steps where none is named.
@@ -54,6 +76,9 @@ const USUAL_PIVOTS: u64 = 10_000;
 
 /// The depth of a search that names none.
 const USUAL_DEPTH: u64 = 60;
+
+/// The number of workers where none is named.
+const USUAL_WORKERS: u64 = 1;
 
 /// The command that the words after the program's name ask for.
 ///
@@ -73,6 +98,7 @@ pub fn read_words(words: &[String]) -> Result<Command<'_>, Usage>
         "check" => check(arguments),
         "minimum" => minimum(arguments),
         "copositive" => copositive(arguments),
+        "sample" => sample(arguments),
         _ => Err(Usage { position: 1 }),
     }
 }
@@ -87,6 +113,7 @@ fn solve(words: &[String]) -> Result<Command<'_>, Usage>
     Ok(Command::Solve {
         file: words[file].as_str(),
         limits: limits(words),
+        workers: workers(&SOLVE_ROW, words),
         trace: is_among(TRACE_OPTION.name, words),
     })
 }
@@ -124,7 +151,11 @@ fn minimum(words: &[String]) -> Result<Command<'_>, Usage>
     ensures usage { IfErr result (λ usage. read_as (Some minimum) (texts words.now) ≡ Err usage.position) }
 {
     let (file, depth) = file_and_depth(words)?;
-    Ok(Command::Minimum { file, depth })
+    Ok(Command::Minimum {
+        file,
+        depth,
+        workers: workers(&SEARCH_ROW, words),
+    })
 }
 
 /// The command `copositive` with these words after its name.
@@ -134,7 +165,26 @@ fn copositive(words: &[String]) -> Result<Command<'_>, Usage>
     ensures usage { IfErr result (λ usage. read_as (Some copositive) (texts words.now) ≡ Err usage.position) }
 {
     let (file, depth) = file_and_depth(words)?;
-    Ok(Command::Copositive { file, depth })
+    Ok(Command::Copositive {
+        file,
+        depth,
+        workers: workers(&SEARCH_ROW, words),
+    })
+}
+
+/// The command `sample` with these words after its name.
+fn sample(words: &[String]) -> Result<Command<'_>, Usage>
+    ensures command { IfOk result (λ command. read_as (Some sample) (texts words.now) ≡ Ok (request_of command)) }
+    ensures ranges { IfOk result (λ command. HasRanges (request_of command)) }
+    ensures usage { IfErr result (λ usage. read_as (Some sample) (texts words.now) ≡ Err usage.position) }
+{
+    let [n, k, first] = plain_places(&SAMPLE_ROW, words)?;
+    Ok(Command::Sample {
+        n: number_argument(words, n) as u8,
+        k: number_argument(words, k) as u32,
+        first: number_argument(words, first),
+        workers: workers(&SAMPLE_ROW, words),
+    })
 }
 
 /// The file and the depth that the words of a search name.
@@ -159,6 +209,26 @@ fn depth(words: &[String]) -> u8
     option_value(&SEARCH_ROW, words, DEPTH_OPTION.name, USUAL_DEPTH) as u8
 }
 
+/// The number of workers that the words of a command name, whose row has that option.
+fn workers(row: &CommandRow, words: &[String]) -> u8
+    requires read { fault_place (plain_of row.now) (options_of row.now) (texts words.now) ≡ None }
+    requires option { option_named (options_of row.now) workers.name ≡ Some workers }
+    ensures value { result ≡ workers_of (texts words.now) }
+    ensures within { AreWorkers result }
+{
+    option_value(row, words, WORKERS_OPTION.name, USUAL_WORKERS) as u8
+}
+
+/// The limits of a walk where no words name them.
+pub fn usual_limits() -> Limits
+    ensures { result ≡ usual_limits }
+{
+    Limits {
+        pivots: USUAL_PIVOTS as u32,
+        depth: USUAL_DEPTH as u8,
+    }
+}
+
 /// Each list of words is read in one way: it is a command line for one request, or is at fault at one position.
 /// However many words there are, that position is at most 32, since no option is given twice and plain arguments
 /// are few.
@@ -175,85 +245,101 @@ mod tests {
 
     /// The words of a line.
     fn words_of(alloc: Global, line: &str) -> Result<Vec<String>, AllocError> {
+        command_words(alloc, line, "")
+    }
+
+    /// The words of a command's name and of a line that follows it.
+    fn command_words(alloc: Global, name: &str, line: &str) -> Result<Vec<String>, AllocError> {
         let mut words = Vec::new(alloc);
-        for word in line.split_whitespace() {
+        for word in name.split_whitespace().chain(line.split_whitespace()) {
             words.push(String::from_str(alloc, word)?)?;
         }
         Ok(words)
     }
 
-    /// Each with the command that it asks for.
-    const READ: [(&str, Command<'static>); 7] = [
+    /// Command lines of `solve`, each with the file, the limits of steps and depth, how many workers, and whether the
+    /// trace is wanted.
+    const SOLVED: [(&str, &str, u32, u8, u8, bool); 16] = [
+        ("solve a", "a", 10_000, 60, 1, false),
+        ("solve -", "-", 10_000, 60, 1, false),
+        ("solve -a", "-a", 10_000, 60, 1, false),
+        ("solve a --pivots 0", "a", 0, 60, 1, false),
+        ("solve a --pivots 100000", "a", 100_000, 60, 1, false),
+        ("solve --depth 0 a", "a", 10_000, 0, 1, false),
+        ("solve a --depth 200", "a", 10_000, 200, 1, false),
+        ("solve a --trace", "a", 10_000, 60, 1, true),
+        ("solve --trace a", "a", 10_000, 60, 1, true),
+        ("solve --depth 7 --trace a --pivots 3", "a", 3, 7, 1, true),
+        ("solve a --workers 1", "a", 10_000, 60, 1, false),
+        ("solve --workers 16 a", "a", 10_000, 60, 16, false),
+        ("solve a --workers 2 --depth 5", "a", 10_000, 5, 2, false),
+        ("solve a --depth 5 --workers 2", "a", 10_000, 5, 2, false),
+        ("solve a --trace --workers 9", "a", 10_000, 60, 9, true),
         (
-            "check a b",
-            Command::Check {
-                file: "a",
-                proof: "b",
-            },
-        ),
-        (
-            "minimum a",
-            Command::Minimum {
-                file: "a",
-                depth: 60,
-            },
-        ),
-        (
-            "minimum a --depth 5",
-            Command::Minimum {
-                file: "a",
-                depth: 5,
-            },
-        ),
-        (
-            "minimum --depth 0 a",
-            Command::Minimum {
-                file: "a",
-                depth: 0,
-            },
-        ),
-        (
-            "minimum a --depth 200",
-            Command::Minimum {
-                file: "a",
-                depth: 200,
-            },
-        ),
-        (
-            "copositive a",
-            Command::Copositive {
-                file: "a",
-                depth: 60,
-            },
-        ),
-        (
-            "copositive --depth 5 a",
-            Command::Copositive {
-                file: "a",
-                depth: 5,
-            },
+            "solve --workers 4 --pivots 3 a --trace --depth 7",
+            "a",
+            3,
+            7,
+            4,
+            true,
         ),
     ];
 
-    /// Command lines of `solve`, each with the file, the limits of steps and depth, and whether the trace is wanted.
-    const SOLVED: [(&str, &str, u32, u8, bool); 10] = [
-        ("solve a", "a", 10_000, 60, false),
-        ("solve -", "-", 10_000, 60, false),
-        ("solve -a", "-a", 10_000, 60, false),
-        ("solve a --pivots 0", "a", 0, 60, false),
-        ("solve a --pivots 100000", "a", 100_000, 60, false),
-        ("solve --depth 0 a", "a", 10_000, 0, false),
-        ("solve a --depth 200", "a", 10_000, 200, false),
-        ("solve a --trace", "a", 10_000, 60, true),
-        ("solve --trace a", "a", 10_000, 60, true),
-        ("solve --depth 7 --trace a --pivots 3", "a", 3, 7, true),
+    /// What follows `minimum` or `copositive`, each with the depth and how many workers. The file is `a`.
+    const SEARCHED: [(&str, u8, u8); 10] = [
+        ("a", 60, 1),
+        ("a --depth 5", 5, 1),
+        ("--depth 5 a", 5, 1),
+        ("--depth 0 a", 0, 1),
+        ("a --depth 200", 200, 1),
+        ("a --workers 1", 60, 1),
+        ("--workers 16 a", 60, 16),
+        ("a --workers 2 --depth 7", 7, 2),
+        ("a --depth 7 --workers 2", 7, 2),
+        ("--depth 16 a --workers 8", 16, 8),
+    ];
+
+    /// Command lines of `sample`, each with its three numbers and how many workers.
+    const SAMPLED: [(&str, u8, u32, u64, u8); 6] = [
+        ("sample 1 1 0", 1, 1, 0, 1),
+        (
+            "sample 6 100000 18446744073709551615",
+            6,
+            100_000,
+            u64::MAX,
+            1,
+        ),
+        ("sample 2 3 4 --workers 1", 2, 3, 4, 1),
+        ("sample 2 3 4 --workers 16", 2, 3, 4, 16),
+        ("sample --workers 5 2 3 4", 2, 3, 4, 5),
+        ("sample 2 --workers 5 3 4", 2, 3, 4, 5),
     ];
 
     /// Each with the position of its first fault.
-    const FAULTY: [(&str, u32); 46] = [
+    const FAULTY: [(&str, u32); 89] = [
+        ("sample", 2),
+        ("sample 2 1", 4),
+        ("sample 7 1 0", 2),
+        ("sample 0 1 0", 2),
+        ("sample 2 0 0", 3),
+        ("sample 2 100001 0", 3),
+        ("sample 2 01 0", 3),
+        ("sample 2 1 18446744073709551616", 4),
+        ("sample 2 1 -1", 4),
+        ("sample 2 1 0 0", 5),
+        ("sample 2 1 0 --workers 0", 6),
+        ("sample 2 1 0 --workers 17", 6),
+        ("sample --workers a 2 1 0", 3),
+        ("sample 2 1 0 --workers", 6),
+        ("sample 2 1 --workers 4", 6),
+        ("sample 2 --workers 4 1 0 --workers 4", 7),
+        ("sample 2 --depth 5 1 0", 3),
+        ("sample 2 --trace 1 0", 3),
         ("check a", 3),
         ("check a b c", 4),
         ("check a --depth 5", 3),
+        ("check a b --workers 1", 4),
+        ("check --workers 1 a b", 2),
         ("", 1),
         ("sum a", 1),
         ("minimum", 2),
@@ -277,7 +363,21 @@ mod tests {
         ("solve a --trace 5", 4),
         ("solve a --pivots 5 --depth 6 --pivots 5", 7),
         ("solve a --depth 5 --trace --depth 5", 6),
-        ("solve a --workers 1", 3),
+        ("solve a --workers 0", 4),
+        ("solve a --workers 17", 4),
+        ("solve a --workers 18446744073709551617", 4),
+        ("solve a --workers 04", 4),
+        ("solve a --workers +4", 4),
+        ("solve a --workers four", 4),
+        ("solve a --workers", 4),
+        ("solve --workers 4", 4),
+        ("solve --workers a", 3),
+        ("solve a --workers --depth 5", 4),
+        ("solve a --workers 4 4", 5),
+        ("solve a --workers 4 --workers 4", 5),
+        ("solve a --workers 4 --depth 5 --workers 3", 7),
+        ("solve a --workers=4", 3),
+        ("solve a --worker 4", 3),
         ("solve a --trace=1", 3),
         ("solve a --x=1", 3),
         ("solve a b --x", 3),
@@ -294,31 +394,91 @@ mod tests {
         ("minimum a --depth=5", 3),
         ("minimum a --trace", 3),
         ("minimum a --depth --depth", 4),
+        ("minimum a --workers 0", 4),
+        ("minimum --workers 17 a", 3),
+        ("minimum --depth 5 --workers -1 a", 5),
+        ("minimum --workers 2 --depth 201 a", 5),
+        ("minimum a --workers 2 --depth 7 --workers 2", 7),
+        ("copositive a --workers 0", 4),
+        ("copositive a --depth 5 --workers 17", 6),
+        ("copositive --workers 4 --workers 4 a", 4),
+        ("copositive a --workers x", 4),
         ("copositive a b", 3),
         ("copositive", 2),
         ("copositive --", 2),
     ];
 
     #[test]
-    fn command_lines_are_read(rt: HostRuntime) -> Result<(), Fail> {
-        for (line, command) in READ {
+    fn command_lines_of_solve_are_read(rt: HostRuntime) -> Result<(), Fail> {
+        for (line, file, pivots, depth, workers, trace) in SOLVED {
             let words = words_of(rt.alloc(), line)?;
+            let command = Command::Solve {
+                file,
+                limits: Limits { pivots, depth },
+                workers,
+                trace,
+            };
             assert_eq!(rt; read_words(&words), Ok(command), "at {line}");
+            assert_eq!(rt; command.workers(), workers, "at {line}");
         }
         Ok(())
     }
 
     #[test]
-    fn command_lines_of_solve_are_read(rt: HostRuntime) -> Result<(), Fail> {
-        for (line, file, pivots, depth, trace) in SOLVED {
-            let words = words_of(rt.alloc(), line)?;
-            let command = Command::Solve {
-                file,
-                limits: Limits { pivots, depth },
-                trace,
+    fn command_lines_of_minimum_are_read(rt: HostRuntime) -> Result<(), Fail> {
+        for (line, depth, workers) in SEARCHED {
+            let words = command_words(rt.alloc(), "minimum", line)?;
+            let command = Command::Minimum {
+                file: "a",
+                depth,
+                workers,
             };
             assert_eq!(rt; read_words(&words), Ok(command), "at {line}");
+            assert_eq!(rt; command.workers(), workers, "at {line}");
         }
+        Ok(())
+    }
+
+    #[test]
+    fn command_lines_of_copositive_are_read(rt: HostRuntime) -> Result<(), Fail> {
+        for (line, depth, workers) in SEARCHED {
+            let words = command_words(rt.alloc(), "copositive", line)?;
+            let command = Command::Copositive {
+                file: "a",
+                depth,
+                workers,
+            };
+            assert_eq!(rt; read_words(&words), Ok(command), "at {line}");
+            assert_eq!(rt; command.workers(), workers, "at {line}");
+        }
+        Ok(())
+    }
+
+    #[test]
+    fn command_lines_of_sample_are_read(rt: HostRuntime) -> Result<(), Fail> {
+        for (line, n, k, first, workers) in SAMPLED {
+            let words = words_of(rt.alloc(), line)?;
+            let command = Command::Sample {
+                n,
+                k,
+                first,
+                workers,
+            };
+            assert_eq!(rt; read_words(&words), Ok(command), "at {line}");
+            assert_eq!(rt; command.workers(), workers, "at {line}");
+        }
+        Ok(())
+    }
+
+    #[test]
+    fn a_command_line_of_check_is_read(rt: HostRuntime) -> Result<(), Fail> {
+        let words = words_of(rt.alloc(), "check a b")?;
+        let command = Command::Check {
+            file: "a",
+            proof: "b",
+        };
+        assert_eq!(rt; read_words(&words), Ok(command));
+        assert_eq!(rt; command.workers(), 1);
         Ok(())
     }
 

@@ -48,7 +48,7 @@ pub easy_request_due : (words : List (List ℕ)) (told : List ℕ → Option (Li
     → (e : Ended) × IsRequestDue words told e × IsFactoredAtOnce e
 easy_request_due words told h =
     let due = easy_due h.limits h.bytes h.matrix h.text h.easy in
-    (due.0, (Solve h.file h.limits h.traced, h.asked, record { held = h.bytes; is_told = h.is_told; due_of_held = inl (h.within, due.1) }), due.2)
+    (due.0, (Solve h.file h.limits h.workers h.traced, h.asked, record { held = h.bytes; is_told = h.is_told; due_of_held = inl (h.within, due.1) }), due.2)
 
 pub factors_after_reading : (e given : Ended) → IsFactoredAtOnce e → YieldsToReading e given → EndsWith ReadFault given ⊎ FactorsAtOnce given
 factors_after_reading e given h (inl unread) = inl unread

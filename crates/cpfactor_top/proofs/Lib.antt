@@ -6,6 +6,7 @@ pub mod SearchValues
 pub mod FileLaws
 pub mod CheckLaws
 pub mod CheckWords
+pub mod SampleLaws
 pub mod RequestLaws
 pub mod EasyMatrices
 pub mod Accepting

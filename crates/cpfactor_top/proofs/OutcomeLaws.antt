@@ -1,5 +1,5 @@
 -- Laws of the ways in which a call ends that writes an answer.
-use Rattle.std.specs.Prelude.{◌≡◌, ◌≢◌, List, ℕ}
+use Rattle.std.specs.Prelude.{◌≡◌, ◌≢◌, List, ℕ, Result, Ok, Err, IfOk, IfErr}
 use Rattle.std.proofs.Common.{inl, inr, subst, sym, refl, ap, ◌∙◌}
 use Rattle.cp_outside.specs.declared.sink.PutEnd.{PutEnd}
 use Rattle.cp_outside.specs.declared.sink.PutEnd.TheVariants.{Done, Failed, OutOfMemory}
@@ -32,6 +32,12 @@ ends_by_none answers shown e ends = ends_by_follows IsNone answers shown (λ c t
 pub ends_by_only : (answers : Ended → List ℕ → Type 0) (only : Ended) (text : List ℕ) (shown : SinkShown) (e : Ended) → answers only text → EndsBy (IsOnly only text) shown e → EndsBy answers shown e
 ends_by_only answers only text shown e holds ends =
     ends_by_follows (IsOnly only text) answers shown (λ c t is. subst (λ (d : Ended). answers d t) (sym is.0) (subst (λ (u : List ℕ). answers only u) (sym is.1) holds)) e ends
+
+-- the ending of an answer that was put, if there was memory for making its text
+pub ends_by_made : {A E : Type 0} (answers : Ended → List ℕ → Type 0) (shown : SinkShown) (e : Ended) (ended : A → Ended) (text : A → List ℕ) (made : Result A E)
+    → IfOk made (λ r. answers (ended r) (text r)) → IfOk made (λ r. EndsBy (IsOnly (ended r) (text r)) shown e) → IfErr made (λ _. EndsBy IsNone shown e) → EndsBy answers shown e
+ends_by_made answers shown e ended text (Ok r) holds put wanting = ends_by_only answers (ended r) (text r) shown e holds put
+ends_by_made answers shown e ended text (Err fail) holds put wanting = ends_by_none answers shown e wanting
 
 -- ---- an answer that was put
 ends_by_put : (e : Ended) (text : List ℕ) (shown : SinkShown) (end : PutEnd) → IsPut text shown end → EndsBy (IsOnly e text) shown (ended_after end e)

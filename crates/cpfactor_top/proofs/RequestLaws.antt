@@ -1,12 +1,12 @@
 -- Answers for words, and that one ending alone is due.
-use Rattle.std.specs.Prelude.{◌≡◌, ◌≢◌, ◌⊎◌, ℕ, List, [], ◌∷◌, Option}
+use Rattle.std.specs.Prelude.{◌≡◌, ◌≢◌, ◌⊎◌, ℕ, List, [], ◌∷◌, Option, Some, None}
 use Rattle.std.specs.List.{All}
 use Rattle.std.proofs.lemmas.List.Elements.{All-head, All-tail}
 use Rattle.std.proofs.Common.{refl, sym, ap, ◌∙◌, subst, inl, inr}
 use Rattle.matrix_text.specs.RationalMatrix.{RationalMatrix}
 use Rattle.matrix_text.specs.declared.fault.TextFault.{TextFault}
 use Rattle.unimodular_cone.specs.declared.Mode.{Mode}
-use Rattle.cpfactor_lines.specs.Commands.{Request, Solve, Check, Minimum, Copositive, IsCommandLine, IsUsageAt}
+use Rattle.cpfactor_lines.specs.Commands.{Request, Solve, Check, Minimum, Copositive, Sample, IsCommandLine, IsUsageAt}
 use Rattle.cpfactor_lines.specs.Sinks.{SinkShown}
 use Rattle.cpfactor_top.specs.declared.ended.Ended.{Ended}
 use Rattle.cpfactor_top.specs.declared.ended.Cause.TheVariants.{Usage, MatrixFault, ReadFault, WriteFault, Memory}
@@ -16,18 +16,30 @@ use Rattle.cpfactor_top.specs.Files.{FileShown, matrix_file, IsFileAnswer}
 use Rattle.cpfactor_top.specs.Checking.{proof_file, IsProofAnswer, IsProofDue}
 use Rattle.cpfactor_top.specs.Solving.{IsSolved, IsSolveDue}
 use Rattle.cpfactor_top.specs.Searching.{IsSearched, IsSearchDue}
-use Rattle.cpfactor_top.specs.Answers.{file_of, files_of, answers_of_matrix, due_of_matrix, answers_of, due_of, IsAnswer, IsRequestDue, IsBytesAnswer, IsBytesDue, YieldsTo, YieldsToReading}
+use Rattle.cpfactor_top.specs.Sampling.{IsSampled, IsSampleDue}
+use Rattle.cpfactor_top.specs.Answers.{file_of, files_of, answers_of_matrix, due_of_matrix, IsGivenAnswer, IsGivenDue, answers_of, due_of, IsAnswer, IsRequestDue, IsBytesAnswer, IsBytesDue, YieldsTo, YieldsToReading}
 use Rattle.cpfactor_top.proofs.AnswerLaws.{IsQuestion, solving, searching, one_matrix, one_fault, text_or_fault}
 use Rattle.cpfactor_top.proofs.FileLaws.{Encloses, IsSettled, file_settled, file_enclosed, file_follows}
 use Rattle.cpfactor_top.proofs.CheckLaws.{proof_settled}
+use Rattle.cpfactor_top.proofs.SampleLaws.{sampling, sample_settled}
 use Rattle.cpfactor_top.proofs.OutcomeLaws.{ends_yield}
 
 -- a request's own file is among its files
-pub file_among : (r : Request) (name : List ℕ) → All (λ file. name ≢ file) (files_of r) → name ≢ file_of r
-file_among (Solve file limits traced) name all = All-head (λ (f : List ℕ). name ≢ f) file [] all
-file_among (Check file proof) name all = All-head (λ (f : List ℕ). name ≢ f) file (proof ∷ []) all
-file_among (Minimum file depth) name all = All-head (λ (f : List ℕ). name ≢ f) file [] all
-file_among (Copositive file depth) name all = All-head (λ (f : List ℕ). name ≢ f) file [] all
+same_name : (file own : List ℕ) → Some file ≡ Some own → file ≡ own
+same_name file own is = cc
+
+own_file : (file : List ℕ) (more : List (List ℕ)) (name own : List ℕ) → Some file ≡ Some own → All (λ f. name ≢ f) (file ∷ more) → name ≢ own
+own_file file more name own is all = subst (λ (f : List ℕ). name ≢ f) (same_name file own is) (All-head (λ (f : List ℕ). name ≢ f) file more all)
+
+no_name : (own : List ℕ) → None ≡ Some own → ⊥
+no_name own is = absurd cc
+
+pub file_among : (r : Request) (name own : List ℕ) → file_of r ≡ Some own → All (λ file. name ≢ file) (files_of r) → name ≢ own
+file_among (Solve file limits workers traced) name own is all = own_file file [] name own is all
+file_among (Check file proof) name own is all = own_file file (proof ∷ []) name own is all
+file_among (Minimum file depth workers) name own is all = own_file file [] name own is all
+file_among (Copositive file depth workers) name own is all = own_file file [] name own is all
+file_among (Sample n k first workers) name own is all = absurd (no_name own is)
 
 -- and so is the proof of a request to check
 pub proof_among : (file proof name : List ℕ) → All (λ f. name ≢ f) (files_of (Check file proof)) → name ≢ proof
@@ -56,31 +68,41 @@ module _ (answers : RationalMatrix → Ended → List ℕ → Type 0) (due : Rat
 
 module _ (files : List ℕ → FileShown) (told : List ℕ → Option (List ℕ)) (same : (name : List ℕ) → (files name).told ≡ told name) where
   matrix_settled : (r : Request) (a : RationalMatrix) → IsSettled (answers_of_matrix files r a) (due_of_matrix told r a)
-  matrix_settled (Solve file limits traced) a = question_settled (IsSolved traced limits) (IsSolveDue limits) (solving traced limits) a
+  matrix_settled (Solve file limits workers traced) a = question_settled (IsSolved traced limits) (IsSolveDue limits) (solving traced limits) a
   matrix_settled (Check file proof) a = file_settled proof_file (IsProofAnswer a) (IsProofDue a) (proof_settled a) (files proof) (told proof) (same proof)
-  matrix_settled (Minimum file depth) a = question_settled (IsSearched Mode.Least depth) (IsSearchDue Mode.Least depth) (searching Mode.Least depth) a
-  matrix_settled (Copositive file depth) a = question_settled (IsSearched Mode.Sign depth) (IsSearchDue Mode.Sign depth) (searching Mode.Sign depth) a
+  matrix_settled (Minimum file depth workers) a = question_settled (IsSearched Mode.Least depth) (IsSearchDue Mode.Least depth) (searching Mode.Least depth) a
+  matrix_settled (Sample n k first workers) a = question_settled (IsSampled n k first) (IsSampleDue n k first) (sampling n k first) a
+  matrix_settled (Copositive file depth workers) a = question_settled (IsSearched Mode.Sign depth) (IsSearchDue Mode.Sign depth) (searching Mode.Sign depth) a
+
+  file_request_settled : (file : List ℕ) (r : Request) → IsSettled (IsGivenAnswer (Some file) (answers_of_matrix files r) files) (IsGivenDue (Some file) (due_of_matrix told r) told)
+  file_request_settled file r =
+      file_settled matrix_file (IsBytesAnswer (answers_of_matrix files r)) (IsBytesDue (due_of_matrix told r)) (bytes_settled (answers_of_matrix files r) (due_of_matrix told r) (matrix_settled r)) (files file) (told file) (same file)
 
   pub request_settled : (r : Request) → IsSettled (answers_of r files) (due_of r told)
-  request_settled r =
-      file_settled matrix_file (IsBytesAnswer (answers_of_matrix files r)) (IsBytesDue (due_of_matrix told r)) (bytes_settled (answers_of_matrix files r) (due_of_matrix told r) (matrix_settled r)) (files (file_of r)) (told (file_of r)) (same (file_of r))
+  request_settled (Solve file limits workers traced) = file_request_settled file (Solve file limits workers traced)
+  request_settled (Check file proof) = file_request_settled file (Check file proof)
+  request_settled (Minimum file depth workers) = file_request_settled file (Minimum file depth workers)
+  request_settled (Copositive file depth workers) = file_request_settled file (Copositive file depth workers)
+  request_settled (Sample n k first workers) = sample_settled n k first
 
 -- ---- answers over a part of the calls hold over all of them
 module _ (files part : List ℕ → FileShown) (all : (name : List ℕ) → Encloses (files name) (part name)) where
   matrix_enclosed : (r : Request) (a : RationalMatrix) (e : Ended) (text : List ℕ) → answers_of_matrix part r a e text → answers_of_matrix files r a e text
-  matrix_enclosed (Solve file limits traced) a e text h = h
+  matrix_enclosed (Solve file limits workers traced) a e text h = h
   matrix_enclosed (Check file proof) a e text h = file_enclosed proof_file (IsProofAnswer a) (files proof) (part proof) (all proof) e text h
-  matrix_enclosed (Minimum file depth) a e text h = h
-  matrix_enclosed (Copositive file depth) a e text h = h
+  matrix_enclosed (Minimum file depth workers) a e text h = h
+  matrix_enclosed (Copositive file depth workers) a e text h = h
+  matrix_enclosed (Sample n k first workers) a e text h = h
 
   bytes_enclosed : (r : Request) (bytes : List ℕ) (e : Ended) (text : List ℕ) → IsBytesAnswer (answers_of_matrix part r) bytes e text → IsBytesAnswer (answers_of_matrix files r) bytes e text
   bytes_enclosed r bytes e text (inl fault) = inl fault
   bytes_enclosed r bytes e text (inr (a, is, h)) = inr (a, is, matrix_enclosed r a e text h)
 
-  pub request_enclosed : (r : Request) (read : FileShown) → Encloses (files (file_of r)) read → (e : Ended) (text : List ℕ) → IsFileAnswer matrix_file (IsBytesAnswer (answers_of_matrix part r)) read e text → answers_of r files e text
-  request_enclosed r read more e text h =
-      file_follows matrix_file (IsBytesAnswer (answers_of_matrix part r)) (IsBytesAnswer (answers_of_matrix files r)) (files (file_of r)) (bytes_enclosed r) e text
-      (file_enclosed matrix_file (IsBytesAnswer (answers_of_matrix part r)) (files (file_of r)) read more e text h)
+  pub request_enclosed : (r : Request) (file : List ℕ) → file_of r ≡ Some file → (read : FileShown) → Encloses (files file) read → (e : Ended) (text : List ℕ) → IsFileAnswer matrix_file (IsBytesAnswer (answers_of_matrix part r)) read e text → answers_of r files e text
+  request_enclosed r file named read more e text h =
+      subst (λ (own : Option (List ℕ)). IsGivenAnswer own (answers_of_matrix files r) files e text) (sym named)
+      (file_follows matrix_file (IsBytesAnswer (answers_of_matrix part r)) (IsBytesAnswer (answers_of_matrix files r)) (files file) (bytes_enclosed r) e text
+      (file_enclosed matrix_file (IsBytesAnswer (answers_of_matrix part r)) (files file) read more e text h))
 
 -- ---- words
 pub one_request : (words : List (List ℕ)) (r s : Request) → IsCommandLine words r → IsCommandLine words s → r ≡ s

@@ -1,5 +1,5 @@
 -- What `solve` answers, from the walk of S/d.
-use Rattle.std.specs.Prelude.{◌≡◌, ℕ, Bool, ℤ, pos, ◌≤ℤ◌, nat_abs, List, Result, Ok, Err, OnOk}
+use Rattle.std.specs.Prelude.{◌≡◌, ℕ, Bool, ℤ, pos, ◌≤ℤ◌, nat_abs, List, Result, Ok, Err, IfOk, OnOk}
 use Rattle.std.specs.List.{All}
 use Rattle.std.proofs.Common.{refl, sym, subst, inl, inr}
 use Rattle.exact_forms.specs.Factors.{WeightedVector}
@@ -27,7 +27,11 @@ use Rattle.cpfactor_top.specs.Solving.{IsEndText, Excludes, IsWalkAnswer}
 use Rattle.cpfactor_top.specs.WalkTexts.{HasTree, IsWalkTold}
 use Rattle.cpfactor_top.proofs.AnswerLaws.{quotient_of}
 
--- ---- what was appended
+-- ---- what was made or appended
+pub if_ok_follows : {A E : Type 0} (P Q R : A → Type 0) (r : Result A E) → ((x : A) → P x → Q x → R x) → IfOk r P → IfOk r Q → IfOk r R
+if_ok_follows P Q R (Ok x) follows h k = follows x h k
+if_ok_follows P Q R (Err e) follows h k = h
+
 pub on_ok_follows : {A E : Type 0} (P Q : Type 0) (r : Result A E) → (P → Q) → OnOk r P → OnOk r Q
 on_ok_follows P Q (Ok x) follows h = follows h
 on_ok_follows P Q (Err e) follows h = h

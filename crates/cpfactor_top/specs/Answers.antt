@@ -4,9 +4,11 @@
 --     IsBytesDue due bytes e       that, or an ending that is due for the matrix whose text they are
 --     IsBytesAnswer answers bytes e text   the refusal of that fault, or the answer of the matrix
 --     files_of r                   the names of the files that a request names, in the order in which they are read
---     file_of r                    the name of the matrix file among them
+--     file_of r                    the name of the matrix file among them, if there is one
 --     answers_of_matrix files r, due_of_matrix told r    what its command answers of the matrix, and of a second file: ending and
 --                                  text; which ending is due
+--     IsGivenAnswer file answers files e text, IsGivenDue file due told e    an answer of the matrix that a file gives, or,
+--                                  without one, of some matrix; an ending that is due for it
 --     answers_of r files e text    what a request's command answers: the ending and its text; `files name` is what stands outside
 --     due_of r told e              which ending is due for it, where the files tell bytes
 --     IsOther r, IsCheckUsageAt words p    r is no request to check; the words are none for `check`: their first fault is at p, or they
@@ -24,14 +26,14 @@
 --                                  where nothing is owed
 --     FactorsAtOnce given          a factorization is given whose walk made no step, unless the sink failed or memory
 --                                  was wanting
-use Rattle.std.specs.Prelude.{◌≡◌, ◌≢◌, ◌⊎◌, ◌≤◌, ℕ, Bool, List, [], ◌∷◌, length, Option, Some}
+use Rattle.std.specs.Prelude.{◌≡◌, ◌≢◌, ◌⊎◌, ◌≤◌, ℕ, Bool, List, [], ◌∷◌, length, Option, Some, None}
 use Rattle.std.specs.List.{All}
 use Rattle.matrix_text.specs.Matrix.{MatrixText, MatrixFault}
 use Rattle.matrix_text.specs.RationalMatrix.{RationalMatrix}
 use Rattle.matrix_text.specs.declared.fault.TextFault.{TextFault}
 use Rattle.unimodular_cone.specs.declared.Mode.{Mode}
 use Rattle.perfect_walk.specs.declared.journal.Limits.{Limits}
-use Rattle.cpfactor_lines.specs.Commands.{Request, Solve, Check, Minimum, Copositive, IsCommandLine, IsUsageAt}
+use Rattle.cpfactor_lines.specs.Commands.{Request, Solve, Check, Minimum, Copositive, Sample, IsCommandLine, IsUsageAt}
 use Rattle.cpfactor_top.specs.declared.ended.Ended.{Ended}
 use Rattle.cpfactor_top.specs.declared.ended.Cause.TheVariants.{Usage, MatrixFault as Faulty, ReadFault, WriteFault, Memory}
 use Rattle.cpfactor_top.specs.Causes.{ending, EndsWith}
@@ -40,6 +42,7 @@ use Rattle.cpfactor_top.specs.Files.{FileShown, matrix_file, IsFileAnswer, IsFil
 use Rattle.cpfactor_top.specs.Checking.{proof_file, IsProofAnswer, IsProofDue}
 use Rattle.cpfactor_top.specs.Solving.{IsSolved, IsSolveDue, IsEasy, IsFactoredAtOnce}
 use Rattle.cpfactor_top.specs.Searching.{IsSearched, IsSearchDue}
+use Rattle.cpfactor_top.specs.Sampling.{IsSampled, IsSampleDue}
 
 -- ---- bytes
 abbrev pub IsFaultDue : List ℕ → Ended → Type 0
@@ -54,34 +57,47 @@ IsBytesAnswer answers bytes e text = Refuses (IsFaultDue bytes) e text
 
 -- ---- requests
 abbrev pub files_of : Request → List (List ℕ)
-files_of (Solve file limits traced) = file ∷ []
+files_of (Solve file limits workers traced) = file ∷ []
 files_of (Check file proof) = file ∷ proof ∷ []
-files_of (Minimum file depth) = file ∷ []
-files_of (Copositive file depth) = file ∷ []
+files_of (Minimum file depth workers) = file ∷ []
+files_of (Copositive file depth workers) = file ∷ []
+files_of (Sample n k first workers) = []
 
-abbrev pub file_of : Request → List ℕ
-file_of (Solve file limits traced) = file
-file_of (Check file proof) = file
-file_of (Minimum file depth) = file
-file_of (Copositive file depth) = file
+abbrev pub file_of : Request → Option (List ℕ)
+file_of (Solve file limits workers traced) = Some file
+file_of (Check file proof) = Some file
+file_of (Minimum file depth workers) = Some file
+file_of (Copositive file depth workers) = Some file
+file_of (Sample n k first workers) = None
 
 abbrev pub answers_of_matrix : (List ℕ → FileShown) → Request → RationalMatrix → Ended → List ℕ → Type 0
-answers_of_matrix files (Solve file limits traced) = IsSolved traced limits
+answers_of_matrix files (Solve file limits workers traced) = IsSolved traced limits
 answers_of_matrix files (Check file proof) = λ a. IsFileAnswer proof_file (IsProofAnswer a) (files proof)
-answers_of_matrix files (Minimum file depth) = IsSearched Mode.Least depth
-answers_of_matrix files (Copositive file depth) = IsSearched Mode.Sign depth
+answers_of_matrix files (Minimum file depth workers) = IsSearched Mode.Least depth
+answers_of_matrix files (Copositive file depth workers) = IsSearched Mode.Sign depth
+answers_of_matrix files (Sample n k first workers) = IsSampled n k first
 
 abbrev pub due_of_matrix : (List ℕ → Option (List ℕ)) → Request → RationalMatrix → Ended → Type 0
-due_of_matrix told (Solve file limits traced) = IsSolveDue limits
+due_of_matrix told (Solve file limits workers traced) = IsSolveDue limits
 due_of_matrix told (Check file proof) = λ a. IsFileDue proof_file (IsProofDue a) (told proof)
-due_of_matrix told (Minimum file depth) = IsSearchDue Mode.Least depth
-due_of_matrix told (Copositive file depth) = IsSearchDue Mode.Sign depth
+due_of_matrix told (Minimum file depth workers) = IsSearchDue Mode.Least depth
+due_of_matrix told (Copositive file depth workers) = IsSearchDue Mode.Sign depth
+due_of_matrix told (Sample n k first workers) = IsSampleDue n k first
+
+abbrev pub IsGivenAnswer : Option (List ℕ) → (RationalMatrix → Ended → List ℕ → Type 0) → (List ℕ → FileShown) → Ended
+    → List ℕ → Type 0
+IsGivenAnswer (Some file) answers files e text = IsFileAnswer matrix_file (IsBytesAnswer answers) (files file) e text
+IsGivenAnswer None answers files e text = (a : RationalMatrix) × answers a e text
+
+abbrev pub IsGivenDue : Option (List ℕ) → (RationalMatrix → Ended → Type 0) → (List ℕ → Option (List ℕ)) → Ended → Type 0
+IsGivenDue (Some file) due told e = IsFileDue matrix_file (IsBytesDue due) (told file) e
+IsGivenDue None due told e = (a : RationalMatrix) × due a e
 
 abbrev pub answers_of : Request → (List ℕ → FileShown) → Ended → List ℕ → Type 0
-answers_of r files = IsFileAnswer matrix_file (IsBytesAnswer (answers_of_matrix files r)) (files (file_of r))
+answers_of r files = IsGivenAnswer (file_of r) (answers_of_matrix files r) files
 
 abbrev pub due_of : Request → (List ℕ → Option (List ℕ)) → Ended → Type 0
-due_of r told = IsFileDue matrix_file (IsBytesDue (due_of_matrix told r)) (told (file_of r))
+due_of r told = IsGivenDue (file_of r) (due_of_matrix told r) told
 
 -- ---- words
 abbrev pub IsUsageDue : List (List ℕ) → Ended → Type 0
@@ -133,8 +149,9 @@ YieldsToReading e given = EndsWith ReadFault given ⊎ YieldsTo e given
 pub record IsEasyRequest (words : List (List ℕ)) (told : List ℕ → Option (List ℕ)) : Type 0 where
   pub file : List ℕ
   pub limits : Limits
+  pub workers : ℕ
   pub traced : Bool
-  pub asked : IsCommandLine words (Solve file limits traced)
+  pub asked : IsCommandLine words (Solve file limits workers traced)
   pub bytes : List ℕ
   pub is_told : told file ≡ Some bytes
   pub within : length bytes ≤ matrix_file.limit

@@ -2,6 +2,7 @@ pub mod Causes
 pub mod Outcomes
 pub mod Given
 pub mod Solving
+pub mod Sampling
 pub mod WalkTexts
 pub mod Searching
 pub mod Files

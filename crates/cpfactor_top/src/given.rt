@@ -1,6 +1,6 @@
 //! The matrix that a file gives: read from its bytes, and cleared of its denominators.
 
-ghost use Rattle.std.specs.Prelude.{◌≡◌, ◌≤◌, ◌≤ℤ◌, pos, nat_abs, length, Ok, IfOk, IfErr};
+ghost use Rattle.std.specs.Prelude.{◌≡◌, ◌≤◌, ◌≤ℤ◌, pos, nat_abs, length, Ok, None, IfOk, IfErr};
 ghost use Rattle.matrix_text.specs.Matrix.{MatrixText};
 ghost use Rattle.matrix_text.specs.Clearing.{is_placed_owed, clear_ops, cleared_of, IsCleared};
 ghost use Rattle.symmetric_matrix.specs.Owed.{answer};
@@ -11,10 +11,10 @@ ghost use Rattle.cpfactor_top.specs.Files.{matrix_file};
 ghost use Rattle.cpfactor_top.specs.Answers.{IsFaultDue};
 
 use crate::ended::{Cause, Ended};
-use crate::refusal::{refuse, refuse_with, want_memory};
+use crate::refusal::{refuse, want_memory};
 use cp_outside::Sink;
 use matrix_text::{ClearFail, RatMatrix, TextFail, cleared, read_matrix};
-use perfect_walk::{Journal, Owed};
+use perfect_walk::Owed;
 use std::alloc::Global;
 use symmetric_matrix::SymInt;
 
@@ -37,27 +37,24 @@ pub fn read_or_refuse<K: Sink>(
     }
 }
 
-/// S and d with A = S/d, or the ending, with this journal, after the first operation that doesn't fit was written, or the
-/// one after want of memory was.
+/// S and d with A = S/d, or the ending after the first operation that doesn't fit, or want of memory, was written.
 pub fn clear_or_refuse<K: Sink>(
     alloc: Global,
     a: &RatMatrix,
-    journal: Option<Journal>,
     sink: &mut K,
 ) -> Result<(SymInt, i128), Ended>
     ensures clearable { IfOk result (λ r. answer is_placed_owed (clear_ops a.now) (cleared_of a.now) ≡ Ok r) }
     ensures cleared { IfOk result (λ r. IsCleared a.now r.0 (nat_abs r.1)) }
     ensures positive { IfOk result (λ r. pos 1 ≤ℤ r.1) }
     ensures silent { IfOk result (λ _. sink.new ≡ sink.old) }
-    ensures refused { IfErr result (λ ended. EndsBy (Refuses (IsClearRefused journal a.now))
+    ensures refused { IfErr result (λ ended. EndsBy (Refuses (IsClearRefused None a.now))
         (sink_shown K.Sink sink.old sink.new) ended) }
 {
     match cleared(alloc, a) {
         Ok(made) => Ok(made),
-        Err(ClearFail::Wide { row, column, op }) => Err(refuse_with(
+        Err(ClearFail::Wide { row, column, op }) => Err(refuse(
             alloc,
             sink,
-            journal,
             Cause::Overflow(Owed::Clear { row, column, op }),
         )),
         Err(ClearFail::OutOfMemory) => Err(want_memory(sink)),

@@ -2,8 +2,7 @@
 #![tactic(auto)]
 
 mod checking;
-#[cfg(test)]
-mod checking_tests;
+mod crew;
 mod ended;
 mod exit;
 mod found;
@@ -11,14 +10,12 @@ mod given;
 mod law;
 mod program;
 mod refusal;
+mod sampling;
 mod searching;
 mod solving;
-#[cfg(test)]
-mod solving_tests;
-#[cfg(test)]
-mod tests;
 mod walk_answer;
 
+pub use cone_pool::{Gate, OpenGate};
 pub use cpfactor_lines::{Command, Usage, read_words, words_are_read_one_way};
 pub use ended::{Cause, Ended, Status};
 pub use exit::{exit_number, exit_status};

@@ -1,17 +1,16 @@
 //! Refusals and other answers of one line, and what is written where memory is wanting.
 
-ghost use Rattle.std.specs.Prelude.{◌≡◌, ℕ, List, IfOk};
+ghost use Rattle.std.specs.Prelude.{◌≡◌, ℕ, List, IfOk, IfErr};
 ghost use Rattle.cpfactor_lines.specs.Sinks.{sink_shown};
-ghost use Rattle.cpfactor_top.specs.Causes.{ending, ending_with, refusal_text};
+ghost use Rattle.cpfactor_top.specs.Causes.{ending, refusal_text};
 ghost use Rattle.cpfactor_top.specs.Outcomes.{EndsBy, IsOnly, IsNone};
 
 use crate::ended::{Cause, Ended};
 use cp_outside::Sink;
 use cpfactor_lines::{
     Word, checked_line, depth_line, fault_line, owed_line, pivots_line, proof_fault_line,
-    usage_line, words_line,
+    put_lines, usage_line, words_line,
 };
-use perfect_walk::Journal;
 use std::alloc::{AllocError, Global};
 
 /// Writes that memory was wanting, where nothing has been written yet.
@@ -33,25 +32,23 @@ pub fn answer_line<K: Sink>(sink: &mut K, ended: Ended, line: Result<Vec<u8>, Al
     }
 }
 
+/// Writes an answer's text, if there was memory for making it, and gives the ending.
+pub fn put_answer<K: Sink>(made: Result<(Ended, Vec<u8>), AllocError>, sink: &mut K) -> Ended
+    ensures put { IfOk made (λ r. EndsBy (IsOnly r.0 r.1.items) (sink_shown K.Sink sink.old sink.new) result) }
+    ensures wanting { IfErr made (λ _. EndsBy IsNone (sink_shown K.Sink sink.old sink.new) result) }
+{
+    match made {
+        Ok((ended, text)) => ended.after(put_lines(&text, sink)),
+        Err(_) => want_memory(sink),
+    }
+}
+
 /// Writes the refusal by a cause.
 pub fn refuse<K: Sink>(alloc: Global, sink: &mut K, cause: Cause) -> Ended
     ensures { EndsBy (IsOnly (ending cause) (refusal_text cause)) (sink_shown K.Sink sink.old sink.new) result }
 {
-    refuse_with(alloc, sink, None, cause)
-}
-
-/// Writes the refusal by a cause, which ends a command with this journal.
-pub fn refuse_with<K: Sink>(
-    alloc: Global,
-    sink: &mut K,
-    journal: Option<Journal>,
-    cause: Cause,
-) -> Ended
-    ensures { EndsBy (IsOnly (ending_with journal cause) (refusal_text cause))
-        (sink_shown K.Sink sink.old sink.new) result }
-{
     let line = refusal_line(alloc, &cause);
-    answer_line(sink, Ended::with(journal, cause), line)
+    answer_line(sink, Ended::by(cause), line)
 }
 
 /// The line of the refusal by a cause. It is refused for want of memory alone.

@@ -48,24 +48,39 @@ pub fn minimum_alone<K: Sink>(
     // Each ending comes where it is due.
     ensures due { (e : an_ending) → IsBytesDue (IsSearchDue mode depth) bytes.now e → YieldsTo e result }
 {
-    search_bytes(alloc, bytes, mode, depth, sink)
+    search_with(
+        alloc,
+        &mut SerialSearcher::new(alloc),
+        bytes,
+        mode,
+        depth,
+        sink,
+    )
 }
 
-/// Reads a matrix text and searches its matrix.
-fn search_bytes<K: Sink>(alloc: Global, bytes: &[u8], mode: Mode, depth: u8, sink: &mut K) -> Ended
+/// Reads a matrix text and searches its matrix by this searcher.
+pub fn search_with<S: Searcher, K: Sink>(
+    alloc: Global,
+    searcher: &mut S,
+    bytes: &[u8],
+    mode: Mode,
+    depth: u8,
+    sink: &mut K,
+) -> Ended
     requires bytes { length bytes.now ≤ matrix_file.limit }
     requires depth { depth ≤ 200 }
     ensures { EndsBy (IsBytesAnswer (IsSearched mode depth) bytes.now) (sink_shown K.Sink sink.old sink.new) result }
 {
     match read_or_refuse(alloc, bytes, sink) {
-        Ok(a) => search_matrix(alloc, &a, mode, depth, sink),
+        Ok(a) => search_matrix(alloc, searcher, &a, mode, depth, sink),
         Err(ended) => ended,
     }
 }
 
 /// Searches a matrix.
-fn search_matrix<K: Sink>(
+fn search_matrix<S: Searcher, K: Sink>(
     alloc: Global,
+    searcher: &mut S,
     a: &RatMatrix,
     mode: Mode,
     depth: u8,
@@ -74,15 +89,16 @@ fn search_matrix<K: Sink>(
     requires { depth ≤ 200 }
     ensures { EndsBy (IsSearched mode depth a.now) (sink_shown K.Sink sink.old sink.new) result }
 {
-    match clear_or_refuse(alloc, a, None, sink) {
-        Ok((s, d)) => search_whole(alloc, &s, d, mode, depth, sink),
+    match clear_or_refuse(alloc, a, sink) {
+        Ok((s, d)) => search_whole(alloc, searcher, &s, d, mode, depth, sink),
         Err(ended) => ended,
     }
 }
 
 /// Searches a whole matrix S; its values are told over d.
-fn search_whole<K: Sink>(
+fn search_whole<S: Searcher, K: Sink>(
     alloc: Global,
+    searcher: &mut S,
     s: &SymInt,
     d: i128,
     mode: Mode,
@@ -94,18 +110,25 @@ fn search_whole<K: Sink>(
     ensures { EndsBy (IsFound mode depth s.now d) (sink_shown K.Sink sink.old sink.new) result }
 {
     match mode {
-        Mode::Least => search_least(alloc, s, d, depth, sink),
-        Mode::Sign => search_sign(alloc, s, d, depth, sink),
+        Mode::Least => search_least(alloc, searcher, s, d, depth, sink),
+        Mode::Sign => search_sign(alloc, searcher, s, d, depth, sink),
     }
 }
 
 /// Searches S for its least value at nonzero vectors.
-fn search_least<K: Sink>(alloc: Global, s: &SymInt, d: i128, depth: u8, sink: &mut K) -> Ended
+fn search_least<S: Searcher, K: Sink>(
+    alloc: Global,
+    searcher: &mut S,
+    s: &SymInt,
+    d: i128,
+    depth: u8,
+    sink: &mut K,
+) -> Ended
     requires depth { depth ≤ 200 }
     requires positive { pos 1 ≤ℤ d }
     ensures { EndsBy (IsFound Mode.Least depth s.now d) (sink_shown K.Sink sink.old sink.new) result }
 {
-    match SerialSearcher::new(alloc).least(s, depth) {
+    match searcher.least(s, depth) {
         Least::Found { minimum, vectors } => put_minimum(alloc, sink, minimum, d, &vectors),
         Least::Low {
             vector,
@@ -124,12 +147,19 @@ fn search_least<K: Sink>(alloc: Global, s: &SymInt, d: i128, depth: u8, sink: &m
 }
 
 /// Searches S for a value below 0.
-fn search_sign<K: Sink>(alloc: Global, s: &SymInt, d: i128, depth: u8, sink: &mut K) -> Ended
+fn search_sign<S: Searcher, K: Sink>(
+    alloc: Global,
+    searcher: &mut S,
+    s: &SymInt,
+    d: i128,
+    depth: u8,
+    sink: &mut K,
+) -> Ended
     requires depth { depth ≤ 200 }
     requires positive { pos 1 ≤ℤ d }
     ensures { EndsBy (IsFound Mode.Sign depth s.now d) (sink_shown K.Sink sink.old sink.new) result }
 {
-    match SerialSearcher::new(alloc).sign(s, depth) {
+    match searcher.sign(s, depth) {
         Sign::Copositive => put_copositive(alloc, sink, s.n()),
         Sign::Low {
             vector,

@@ -1,6 +1,6 @@
 //! The command `solve`.
 
-ghost use Rattle.std.specs.Prelude.{◌≡◌, ◌≤◌, ◌≤ℤ◌, pos, nat_abs, length, Ok};
+ghost use Rattle.std.specs.Prelude.{◌≡◌, ◌≤◌, ◌≤ℤ◌, pos, nat_abs, length, Ok, Some, IfOk};
 ghost use Rattle.symmetric_matrix.specs.Owed.{answer};
 ghost use Rattle.matrix_text.specs.Matrix.{MatrixText};
 ghost use Rattle.matrix_text.specs.RationalMatrix.{RationalMatrix};
@@ -8,19 +8,21 @@ ghost use Rattle.matrix_text.specs.Clearing.{is_placed_owed, clear_ops, cleared_
 ghost use Rattle.cpfactor_top.specs.declared.ended.Ended.{Ended as an_ending};
 ghost use Rattle.cpfactor_lines.specs.Sinks.{sink_shown};
 ghost use Rattle.cpfactor_top.specs.Outcomes.{EndsBy};
-ghost use Rattle.cpfactor_top.specs.Causes.{HasStatus};
+ghost use Rattle.cpfactor_top.specs.Causes.{HasStatus, ending_with, refusal_text};
 ghost use Rattle.cpfactor_top.specs.Solving.{no_visit, IsSolved, IsSolveDue, IsWalkAnswer, IsEasy};
 ghost use Rattle.cpfactor_top.specs.Files.{matrix_file};
 ghost use Rattle.cpfactor_top.specs.Answers.{IsBytesAnswer, IsBytesDue, YieldsTo, FactorsAtOnce};
 
-use crate::ended::Ended;
-use crate::given::{clear_or_refuse, read_or_refuse};
-use crate::walk_answer::put_walk;
+use crate::ended::{Cause, Ended};
+use crate::given::read_or_refuse;
+use crate::refusal::{put_answer, refusal_line};
+use crate::walk_answer::walk_text;
 use cp_outside::Sink;
-use matrix_text::RatMatrix;
-use perfect_walk::{Journal, Limits, Steps, Visits, walk};
+use matrix_text::{ClearFail, RatMatrix, cleared};
+use perfect_walk::{Journal, Limits, Owed, Steps, Visits, walk};
+use search_core::Searcher;
 use serial_search::SerialSearcher;
-use std::alloc::Global;
+use std::alloc::{AllocError, Global};
 use symmetric_matrix::SymInt;
 
 /// The whole of `solve` after reading, with one worker: factors or separates the matrix whose text the bytes are, at most
@@ -52,12 +54,20 @@ pub fn solve_alone<K: Sink>(
     ensures first_cone { (a : RationalMatrix) → MatrixText bytes.now a → IsEasy limits.depth a
         → FactorsAtOnce result }
 {
-    solve_bytes(alloc, bytes, limits, trace, sink)
+    solve_with(
+        alloc,
+        &mut SerialSearcher::new(alloc),
+        bytes,
+        limits,
+        trace,
+        sink,
+    )
 }
 
-/// Reads a matrix text and solves its matrix.
-fn solve_bytes<K: Sink>(
+/// Reads a matrix text and solves its matrix, its searches made by this searcher.
+pub fn solve_with<S: Searcher, K: Sink>(
     alloc: Global,
+    searcher: &mut S,
     bytes: &[u8],
     limits: Limits,
     trace: bool,
@@ -68,8 +78,29 @@ fn solve_bytes<K: Sink>(
     ensures { EndsBy (IsBytesAnswer (IsSolved trace limits) bytes.now) (sink_shown K.Sink sink.old sink.new) result }
 {
     match read_or_refuse(alloc, bytes, sink) {
-        Ok(a) => solve_matrix(alloc, &a, limits, trace, sink),
+        Ok(a) => put_answer(solve_text(alloc, searcher, &a, limits, trace), sink),
         Err(ended) => ended,
+    }
+}
+
+/// How `solve` ends with a matrix, and its text. It is refused for want of memory alone.
+pub fn solve_text<S: Searcher>(
+    alloc: Global,
+    searcher: &mut S,
+    a: &RatMatrix,
+    limits: Limits,
+    trace: bool,
+) -> Result<(Ended, Vec<u8>), AllocError>
+    requires depth { limits.depth ≤ 200 }
+    requires few { a.now.size ≤ 6 }
+    ensures { IfOk result (λ r. IsSolved trace limits a.now r.0 r.1.items) }
+{
+    match cleared(alloc, a) {
+        Ok((s, d)) => solve_cleared(alloc, searcher, a, &s, d, limits, trace),
+        Err(ClearFail::Wide { row, column, op }) => {
+            refused_text(alloc, Cause::Overflow(Owed::Clear { row, column, op }))
+        }
+        Err(ClearFail::OutOfMemory) => Err(AllocError),
     }
 }
 
@@ -84,41 +115,32 @@ fn no_visit(alloc: Global) -> Journal
     }
 }
 
-/// Clears a matrix of its denominators and solves it.
-fn solve_matrix<K: Sink>(
-    alloc: Global,
-    a: &RatMatrix,
-    limits: Limits,
-    trace: bool,
-    sink: &mut K,
-) -> Ended
-    requires depth { limits.depth ≤ 200 }
-    requires few { a.now.size ≤ 6 }
-    ensures { EndsBy (IsSolved trace limits a.now) (sink_shown K.Sink sink.old sink.new) result }
+/// The ending of a refusal before the walk, and its line. It is refused for want of memory alone.
+fn refused_text(alloc: Global, cause: Cause) -> Result<(Ended, Vec<u8>), AllocError>
+    ensures ended { IfOk result (λ r. r.0 ≡ ending_with (Some no_visit) cause) }
+    ensures text { IfOk result (λ r. r.1.items ≡ refusal_text cause) }
 {
-    match clear_or_refuse(alloc, a, Some(no_visit(alloc)), sink) {
-        Ok((s, d)) => solve_cleared(alloc, a, &s, d, limits, trace, sink),
-        Err(ended) => ended,
-    }
+    let line = refusal_line(alloc, &cause)?;
+    Ok((Ended::with(Some(no_visit(alloc)), cause), line))
 }
 
-/// Solves a matrix A = S/d by a walk.
-fn solve_cleared<K: Sink>(
+/// How a walk of a matrix A = S/d ends, and its text. It is refused for want of memory alone.
+fn solve_cleared<S: Searcher>(
     alloc: Global,
+    searcher: &mut S,
     a: &RatMatrix,
     s: &SymInt,
     d: i128,
     limits: Limits,
     trace: bool,
-    sink: &mut K,
-) -> Ended
+) -> Result<(Ended, Vec<u8>), AllocError>
     requires depth { limits.depth ≤ 200 }
     requires few { a.now.size ≤ 6 }
     requires clearable { answer is_placed_owed (clear_ops a.now) (cleared_of a.now) ≡ Ok (s.now, d) }
     requires cleared { IsCleared a.now s.now (nat_abs d) }
     requires positive { pos 1 ≤ℤ d }
-    ensures { EndsBy (IsWalkAnswer trace limits a.now) (sink_shown K.Sink sink.old sink.new) result }
+    ensures { IfOk result (λ r. IsWalkAnswer trace limits a.now r.0 r.1.items) }
 {
-    let walked = walk(alloc, &mut SerialSearcher::new(alloc), s, d, limits);
-    put_walk(alloc, a, walked, limits, trace, sink)
+    let walked = walk(alloc, searcher, s, d, limits);
+    walk_text(alloc, a.n(), walked, limits, trace)
 }

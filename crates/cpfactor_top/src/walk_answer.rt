@@ -4,20 +4,15 @@ ghost use Rattle.std.specs.Prelude.{◌≡◌, ◌≤◌, ◌++◌, ℕ, List, I
 ghost use Rattle.symmetric_matrix.specs.Symmetric.{entry};
 ghost use Rattle.unimodular_cone.specs.declared.Mode.{Mode};
 ghost use Rattle.unimodular_cone.specs.Answer.{IsSearchAnswer, Copositive};
-ghost use Rattle.walk_verdict.specs.Verdicts.{IsVerdictRight};
-ghost use Rattle.cpfactor_lines.specs.Sinks.{sink_shown};
 ghost use Rattle.cpfactor_top.specs.Causes.{ending_with, refusal_text};
-ghost use Rattle.cpfactor_top.specs.Outcomes.{EndsBy};
-ghost use Rattle.cpfactor_top.specs.Solving.{ending_of, IsWalkText};
+ghost use Rattle.cpfactor_top.specs.Solving.{ending_of};
 ghost use Rattle.cpfactor_top.specs.WalkTexts.{HasTree, AddsSeparation, AddsEnd, IsWalkTold};
 
 use crate::ended::{Cause, Ended, Status};
-use crate::refusal::{refusal_line, want_memory};
+use crate::refusal::refusal_line;
 use cone_tree_certificate::{Verdict, build_tree, write_verdict};
-use cp_outside::Sink;
-use cpfactor_lines::{push_factorization, put_lines, trace_lines};
+use cpfactor_lines::{push_factorization, trace_lines};
 use fraction128::Fraction;
-use matrix_text::RatMatrix;
 use perfect_walk::{End, Journal, Limits, Walked};
 use std::alloc::{AllocError, Global};
 use symmetric_matrix::SymInt;
@@ -101,7 +96,7 @@ fn push_end(
 /// The ending of a walk over matrices of `n` rows and its text, behind the trace of its visits where that is wanted.
 ///
 /// It is refused for want of memory, in the walk or here.
-fn walk_text(
+pub fn walk_text(
     alloc: Global,
     n: u8,
     walked: Walked,
@@ -111,30 +106,9 @@ fn walk_text(
     requires depth { limits.depth ≤ 200 }
     requires few { n ≤ 6 }
     requires tree { HasTree n limits.depth walked.end }
-    ensures ended { IfOk result (λ r. r.0 ≡ ending_of limits.pivots walked) }
-    ensures text { IfOk result (λ r. IsWalkText trace limits n walked r.1.items) }
+    ensures { IfOk result (λ r. IsWalkTold trace limits n walked r.0 r.1.items) }
 {
     let mut text = trace_lines(alloc, trace, &walked.journal.visited)?;
     let ended = push_end(alloc, n, walked, limits, &mut text)?;
     Ok((ended, text))
-}
-
-/// Writes the text of a walk of a matrix, once all of it is made.
-pub fn put_walk<K: Sink>(
-    alloc: Global,
-    a: &RatMatrix,
-    walked: Walked,
-    limits: Limits,
-    trace: bool,
-    sink: &mut K,
-) -> Ended
-    requires depth { limits.depth ≤ 200 }
-    requires few { a.now.size ≤ 6 }
-    requires right { IsVerdictRight a.now limits.depth walked.end }
-    ensures { EndsBy (IsWalkTold trace limits a.now.size walked) (sink_shown K.Sink sink.old sink.new) result }
-{
-    match walk_text(alloc, a.n(), walked, limits, trace) {
-        Ok((ended, text)) => ended.after(put_lines(&text, sink)),
-        Err(_) => want_memory(sink),
-    }
 }

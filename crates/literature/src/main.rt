@@ -1,10 +1,14 @@
-//! Answers the matrices of `examples/literature`, each as the program `cpfactor` would, and prints each command line and status.
+//! Answers the matrices in `data/`, which are copies of those of `examples/literature`, each as the program `cpfactor` would, and
+//! prints each command line and status.
 #![tactic(auto)]
 
 use cp_outside::{RealFiles, RealSink};
-use cpfactor_top::run;
+use cpfactor_top::{OpenGate, run};
 use std::alloc::AllocError;
-use std::io;
+use std::io::{self, Print};
+use std::rt::Files as FileSystem;
+use std::sync::Wait;
+use std::thread::Threads;
 
 /// What is asked of each matrix.
 const COMMAND_LINES: [&str; 14] = [
@@ -33,7 +37,10 @@ fn main(rt: HostRuntime) -> io::Result<()> {
 }
 
 /// Answers a command line on standard output, and gives the number of its status.
-fn answer(rt: &HostRuntime, line: &str) -> Result<u8, AllocError> {
+fn answer<R>(rt: &R, line: &str) -> Result<u8, AllocError>
+where
+    R: Threads + Wait + Sync + FileSystem + Print + AllocGlobal,
+{
     let mut words = Vec::new(rt.alloc());
     for word in line.split_whitespace() {
         words.push(String::from_str(rt.alloc(), word)?)?;
@@ -41,7 +48,7 @@ fn answer(rt: &HostRuntime, line: &str) -> Result<u8, AllocError> {
     let mut files = RealFiles::new(rt, rt.alloc());
     let mut sink = RealSink::new(rt);
     Ok(
-        run(rt.alloc(), &words, &mut files, &mut sink)
+        run(rt, rt.alloc(), &words, &mut files, &mut sink, &OpenGate)
             .status
             .number(),
     )

@@ -4,7 +4,7 @@ use Rattle.cone_pool.specs.Lots.{Deque, Token, deque_of, token_on, lot_deque}
 use Rattle.cone_pool.specs.Parts.{Member, deques_of}
 use Rattle.cone_pool.specs.Crews.{lot_of, AreLent}
 use Rattle.cone_pool.proofs.Handing.{deques_by_core, deques_of_tokens, nothing_taken}
-use Rattle.cone_pool.proofs.Pooling.{new_lots, readies, overs, lents, deques_kept, same_sums, all_sums, all_back}
+use Rattle.cone_pool.proofs.Pooling.{new_lots, readies, overs, lents, deques_kept, same_sums, all_sums, all_back, rest_alike, done_alike}
 use Rattle.cone_pool.proofs.pool.share.Goals as goal
 
 pub hand_out-requires : goal.hand_out-requires
@@ -56,3 +56,9 @@ returns-clause-sums g c = λ p.
     (overs c.args.mode c.args.q.now.size (entry c.args.q.now) c.args.limit c.args.table.now.id 1 c.args.members.now c.hand_out.new.members
     c.work_all.new.members c.requires.new c.in_ok-hand_out.ensures.rest many c.work_all.ensures)
     (omega arith))
+
+pub returns-clause-alike : goal.returns-clause-alike
+returns-clause-alike g c = λ whole h.
+    rest_alike whole c.work_all.new.members c.take_back.new.members c.take_back.ensures.rest
+    (done_alike c.args.mode c.args.q.now.size (entry c.args.q.now) c.args.limit whole c.hand_out.new.members c.work_all.new.members (omega arith)
+    c.work_all.ensures (rest_alike whole c.args.members.now c.hand_out.new.members c.in_ok-hand_out.ensures.rest h))

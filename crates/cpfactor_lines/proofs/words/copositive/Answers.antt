@@ -10,4 +10,6 @@ returns-in_err-file-clause-usage c =
     rw (p.1, p.2) (read_as-usage copositive (texts c.args.words.now) c.in_err-file.field-0.0.position c.in_err-file.ensures.usage)
 
 pub returns-clause-command : goal.returns-clause-command
-returns-clause-command c = rw (c.in_ok-file.ensures.depth, c.in_ok-file.ensures.file) (read_as-request copositive (texts c.args.words.now) c.in_ok-file.ensures.read)
+returns-clause-command c =
+    rw (c.in_ok-file.ensures.depth, c.in_ok-file.ensures.file, c.workers.ensures.value)
+    (read_as-request copositive (texts c.args.words.now) c.in_ok-file.ensures.read)

@@ -2,7 +2,7 @@ use Rattle.std.proofs.Common.{◌≡◌, ◌∙◌, sym, refl, Some}
 use Rattle.std.specs.Prelude.{find}
 use Rattle.std.specs.Str.{bytes_eq}
 use Rattle.std.specs.String.{string_bytes}
-use Rattle.cpfactor_lines.specs.Commands.{CommandRow, commands, solve, check, minimum, copositive}
+use Rattle.cpfactor_lines.specs.Commands.{CommandRow, commands, solve, check, minimum, copositive, sample}
 use Rattle.cpfactor_lines.proofs.ArgumentLaws.{reading_none, reading_as, reading_other, none_named}
 use Rattle.cpfactor_lines.proofs.words.read_words.Goals as goal
 
@@ -49,6 +49,18 @@ returns-in-copositive-clause-usage c =
     let found : find (λ (r : CommandRow). bytes_eq (string_bytes c.name-item.result) r.name) commands ≡ Some copositive = rw (sym c.as_str.ensures.value ∙ c.in-copositive.is) refl in
     rw (reading_as c.args.words.now c.name-item.result (Some copositive) c.name-item.is c.in-len1-up.len_at_least found) c.copositive.ensures.usage
 
+pub returns-in-sample-clause-command : goal.returns-in-sample-clause-command
+returns-in-sample-clause-command c =
+    let found : find (λ (r : CommandRow). bytes_eq (string_bytes c.name-item.result) r.name) commands ≡ Some sample =
+    rw (sym c.as_str.ensures.value ∙ c.in-sample.is) refl in
+    rw (reading_as c.args.words.now c.name-item.result (Some sample) c.name-item.is c.in-len1-up.len_at_least found) c.sample.ensures.command
+
+pub returns-in-sample-clause-usage : goal.returns-in-sample-clause-usage
+returns-in-sample-clause-usage c =
+    let found : find (λ (r : CommandRow). bytes_eq (string_bytes c.name-item.result) r.name) commands ≡ Some sample =
+    rw (sym c.as_str.ensures.value ∙ c.in-sample.is) refl in
+    rw (reading_as c.args.words.now c.name-item.result (Some sample) c.name-item.is c.in-len1-up.len_at_least found) c.sample.ensures.usage
+
 pub returns-in_default-as_str-clause-usage : goal.returns-in_default-as_str-clause-usage
 returns-in_default-as_str-clause-usage c =
     let same = c.as_str.ensures.value in
@@ -56,7 +68,10 @@ returns-in_default-as_str-clause-usage c =
       λ e. c.in_default-as_str.not-solve (same ∙ e),
       (
         λ e. c.in_default-as_str.not-check (same ∙ e),
-        (λ e. c.in_default-as_str.not-minimum (same ∙ e), (λ e. c.in_default-as_str.not-copositive (same ∙ e), tt)),
+        (
+          λ e. c.in_default-as_str.not-minimum (same ∙ e),
+          (λ e. c.in_default-as_str.not-copositive (same ∙ e), (λ e. c.in_default-as_str.not-sample (same ∙ e), tt)),
+        ),
       ),
     ) in
     reading_other c.args.words.now c.name-item.result c.name-item.is c.in-len1-up.len_at_least none

@@ -1,3 +1,4 @@
+use Rattle.std.specs.Prelude.{None}
 use Rattle.std.proofs.Common.{◌≡◌, refl, Err}
 use Rattle.symmetric_matrix.specs.Owed.{answer}
 use Rattle.matrix_text.specs.Clearing.{is_placed_owed, clear_ops, cleared_of}
@@ -18,8 +19,8 @@ pub returns-in-Err-Wide-clause-refused : goal.returns-in-Err-Wide-clause-refused
 returns-in-Err-Wide-clause-refused g c =
     let refused : answer is_placed_owed (clear_ops c.args.a.now) (cleared_of c.args.a.now) ≡ Err (record { row = c.in-Err-Wide.row; column = c.in-Err-Wide.column; op = c.in-Err-Wide.op }) = rw c.in-Err-Wide.field-0-is at c.in-Err-Wide.ensures.wide in
     let cause = Overflow (Clear c.in-Err-Wide.row c.in-Err-Wide.column c.in-Err-Wide.op) in
-    ends_by_only (Refuses (IsClearRefused c.args.journal c.args.a.now)) (ending_with c.args.journal cause) (refusal_text cause) _ c.refuse_with.result
-    (record { op = _; first = some_of_err is_placed_owed (clear_ops c.args.a.now) (cleared_of c.args.a.now) _ refused; ended = refl }, refl) c.refuse_with.ensures
+    ends_by_only (Refuses (IsClearRefused None c.args.a.now)) (ending_with None cause) (refusal_text cause) _ c.refuse.result
+    (record { op = _; first = some_of_err is_placed_owed (clear_ops c.args.a.now) (cleared_of c.args.a.now) _ refused; ended = refl }, refl) c.refuse.ensures
 
 pub returns-in-Err-OutOfMemory-clause-refused : goal.returns-in-Err-OutOfMemory-clause-refused
-returns-in-Err-OutOfMemory-clause-refused g c = ends_by_none (Refuses (IsClearRefused c.args.journal c.args.a.now)) _ _ c.want_memory.ensures
+returns-in-Err-OutOfMemory-clause-refused g c = ends_by_none (Refuses (IsClearRefused None c.args.a.now)) _ _ c.want_memory.ensures

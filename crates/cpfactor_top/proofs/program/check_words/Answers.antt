@@ -36,6 +36,11 @@ returns-in-Ok-Copositive-clause-ended g c =
     let asked = subst (λ (k : Command). IsCommandLine (texts c.args.words.now) (request_of k)) c.in-Ok-Copositive.field-0-is c.in-Ok-Copositive.ensures.command in
     other_refused (texts c.args.words.now) (file_shown g.F.Files c.args.files.now c.args.files.now) _ asked tt _ _ c.refuse-in-Ok-Copositive.ensures
 
+pub returns-in-Ok-Sample-clause-ended : goal.returns-in-Ok-Sample-clause-ended
+returns-in-Ok-Sample-clause-ended g c =
+    let asked = subst (λ (k : Command). IsCommandLine (texts c.args.words.now) (request_of k)) c.in-Ok-Sample.field-0-is c.in-Ok-Sample.ensures.command in
+    other_refused (texts c.args.words.now) (file_shown g.F.Files c.args.files.now c.args.files.now) _ asked tt _ _ c.refuse-in-Ok-Sample.ensures
+
 pub returns-in-Err-clause-ended : goal.returns-in-Err-clause-ended
 returns-in-Err-clause-ended g c =
     let files = file_shown g.F.Files c.args.files.now c.args.files.now in let cause = Usage c.in-Err.field-0.position in

@@ -10,7 +10,7 @@ use Rattle.cone_pool.proofs.member.Member.finish.Goals as goal
 pub ready-requires-clause-tree : goal.ready-requires-clause-tree
 ready-requires-clause-tree c =
     let part = took c.args.mode c.args.q.now.size (entry c.args.q.now) c.args.limit (c.in-Some.path ∷ []) _ _ (omega arith) c.loop.invariant.none
-    (reserved c.args.mode c.args.q.now.size (entry c.args.q.now) c.args.limit [] c.loop.self c.reserve.new.self c.reserve.ensures.items
+    (reserved c.args.mode c.args.q.now.size (entry c.args.q.now) c.args.limit [] c.loop.self c.reserve.new.self c.reserve.ensures.same
     c.loop.invariant.part) (popped _ (Some c.in-Some.path) c.pop.new.self c.in-Some.ensures) in
     let same = c.loop.invariant.same in
     hand_in_tree c.args.mode c.args.q.now.size (entry c.args.q.now) c.args.limit c.in-Some.path _ part (same.number ∙ c.requires.number)
@@ -21,10 +21,10 @@ pub treat-requires-clause-part : goal.treat-requires-clause-part
 treat-requires-clause-part c = restacked c.args.mode c.args.q.now.size (entry c.args.q.now) c.args.limit
     (c.in-Some.path ∷ []) _ c.ready.new.stack c.in_ok-ready-in-Some.ensures.cones
     (took c.args.mode c.args.q.now.size (entry c.args.q.now) c.args.limit (c.in-Some.path ∷ []) _ _ (omega arith) c.loop.invariant.none
-    (reserved c.args.mode c.args.q.now.size (entry c.args.q.now) c.args.limit [] c.loop.self c.reserve.new.self c.reserve.ensures.items
+    (reserved c.args.mode c.args.q.now.size (entry c.args.q.now) c.args.limit [] c.loop.self c.reserve.new.self c.reserve.ensures.same
     c.loop.invariant.part) (popped _ (Some c.in-Some.path) c.pop.new.self c.in-Some.ensures))
 
 pub returns-in-None-clause-part : goal.returns-in-None-clause-part
 returns-in-None-clause-part c = took c.args.mode c.args.q.now.size (entry c.args.q.now) c.args.limit [] _ _ (omega arith) c.loop.invariant.none
-    (reserved c.args.mode c.args.q.now.size (entry c.args.q.now) c.args.limit [] c.loop.self c.reserve.new.self c.reserve.ensures.items
+    (reserved c.args.mode c.args.q.now.size (entry c.args.q.now) c.args.limit [] c.loop.self c.reserve.new.self c.reserve.ensures.same
     c.loop.invariant.part) (popped _ None c.pop.new.self c.in-None.ensures)

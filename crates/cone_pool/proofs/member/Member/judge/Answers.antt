@@ -10,5 +10,5 @@ returns-clause-part c =
     c.deref.ensures.value c.in-Some.ensures.item.3.0 c.in-Some.ensures.item.1 in
     rw c.offer-word.ensures.seat
     (judges c.args.mode n q c.args.limit c.args.path.now c.args.self.now c.in-Some.cone.now c.code.result c.offer-word.result c.judgement-j.result
-    c.note.new.judged c.n-n.ensures.matrix.positive
+    c.note.new.self c.n-n.ensures.matrix.positive
     c.requires.part c.requires.none at c.code.ensures c.offer-word.ensures.below_code c.offer-word.ensures.below_told c.judgement-j.ensures c.note.ensures)

@@ -1,0 +1,5 @@
+//! Whole runs of `sample`.
+#![tactic(auto)]
+
+#[cfg(test)]
+mod tests;

@@ -1,0 +1,5 @@
+//! Whole runs of `minimum` and `copositive`, and of matrix texts that are refused.
+#![tactic(auto)]
+
+#[cfg(test)]
+mod tests;

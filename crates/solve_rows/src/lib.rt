@@ -1,0 +1,5 @@
+//! Whole runs of `solve`.
+#![tactic(auto)]
+
+#[cfg(test)]
+mod tests;
