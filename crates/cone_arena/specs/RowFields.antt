@@ -1,7 +1,7 @@
 -- The fields of the rows of a block, and what they show.
 --
 --     IsLaid slots written   the places hold cones up to there and are empty from there on; somes slots are those cones
---     rows_of f              the cones in its places, and how many places there are
+--     shown_rows f           the cones in its places, and how many places there are
 --     AreRows f              its places are laid so, they are the block that its pointer names, and the right to free it is at hand
 use Rattle.std.specs.Prelude.{ℕ, ◌≡◌, ◌≤◌, ◌-◌, List, ◌++◌, length, map, replicate, Option, Some, None}
 use Rattle.circular_buffer.specs.Places.{somes}
@@ -14,8 +14,8 @@ pub record IsLaid (slots : List (Option ShownCone)) (written : ℕ) : Type 0 whe
   pub count : length (somes slots) ≡ written
   pub within : written ≤ length slots
 
-abbrev pub rows_of : Inside → ShownRows
-rows_of f = record { items = somes f.cells.slots; room = f.room }
+abbrev pub shown_rows : Inside → ShownRows
+shown_rows f = record { items = somes f.cells.slots; room = f.room }
 
 pub record AreRows (f : Inside) : Type 0 where
   pub laid : IsLaid f.cells.slots f.written

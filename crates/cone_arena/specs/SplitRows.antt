@@ -2,7 +2,7 @@
 --
 --     IsSplittableAt rows top i j    the cone of the row can be split on the sides of i and j, from 1
 --     AreRowsSplit old top i j new   new is old with child 1 in that row and child 0 in the next
---     IsTopSplit old top i j new     the rows below that row are as before, it is child 1, and the next is child 0
+--     IsTopRowSplit old top i j new     the rows below that row are as before, it is child 1, and the next is child 0
 use Rattle.std.specs.Prelude.{ℕ, ◌≡◌, ◌<◌, ◌≤◌, ◌+◌, ◌-◌, true, false, List, [], ◌∷◌, ◌++◌, length, take, slice_index_or, slice_set}
 use Rattle.unimodular_cone.specs.Shown.{ShownCone, IsChild, FitsOnBothSides}
 
@@ -25,7 +25,7 @@ pub record AreRowsSplit (old : List ShownCone) (top i j : ℕ) (new : List Shown
   pub is_first : IsChild was (i - 1) (j - 1) false first
   pub rows : new ≡ slice_set (slice_set old top second) (top + 1) first
 
-pub record IsTopSplit (old : List ShownCone) (top i j : ℕ) (new : List ShownCone) : Type 0 where
+pub record IsTopRowSplit (old : List ShownCone) (top i j : ℕ) (new : List ShownCone) : Type 0 where
   pub was : ShownCone
   pub second : ShownCone
   pub first : ShownCone

@@ -3,7 +3,7 @@
 ghost use Rattle.std.specs.Prelude.{◌≡◌, ◌≤◌, ◌<◌, ◌+◌, ◌-◌, [], length, IfOk, IfErr};
 ghost use Rattle.symmetric_matrix.specs.Symmetric.{entry};
 ghost use Rattle.unimodular_cone.specs.Shown.{IsFirstWideAt};
-ghost use Rattle.cone_arena.specs.Arena.{MaySplit, TopFits, IsTopReplaced, IsWideTop, IsTopOf, HasRoot, IsDropped};
+ghost use Rattle.cone_arena.specs.Arena.{IsArena, MaySplit, TopFits, IsTopReplaced, IsWideTop, IsTopOf, HasRoot, IsDropped};
 
 use crate::rows::Rows;
 use crate::view::ConeView;
@@ -110,6 +110,13 @@ impl ConeArena {
         ensures { IsDropped self.old self.new }
     {
         self.len -= 1;
+    }
+
+    /// The allocator that the block is from.
+    pub fn allocator(&self) -> Global
+        ensures { IsArena self.now }
+    {
+        self.rows.allocator()
     }
 
     /// How many cones there are.

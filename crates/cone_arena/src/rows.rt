@@ -1,7 +1,7 @@
 //! The rows of a block of memory: cones from its start on, and above them places that are still empty.
 
 ghost use Rattle.std.specs.Prelude.{◌≡◌, ◌≤◌, ◌<◌, ◌+◌, ◌++◌, [], ◌∷◌, length, take, slice_index_or, slice_set, IfOk};
-ghost use Rattle.cone_arena.specs.SplitRows.{IsSplittableAt, AreRowsSplit, IsTopSplit};
+ghost use Rattle.cone_arena.specs.SplitRows.{IsSplittableAt, AreRowsSplit, IsTopRowSplit};
 
 use crate::cells::{Base, Cells, Deed, allocate, deallocate};
 use std::alloc::{AllocError, Global};
@@ -22,11 +22,11 @@ pub struct Rows {
 
 impl Model for Rows {
     ghost use Rattle.cone_arena.specs.ShownRows.{ShownRows};
-    ghost use Rattle.cone_arena.specs.RowFields.{rows_of, AreRows};
+    ghost use Rattle.cone_arena.specs.RowFields.{shown_rows, AreRows};
 
     ghost Value = { ShownRows };
 
-    ghost view = { rows_of };
+    ghost view = { shown_rows };
 
     ghost invariant = { AreRows };
 }
@@ -61,6 +61,11 @@ impl Rows {
             deed,
             alloc,
         })
+    }
+
+    /// Where the block is from.
+    pub(crate) fn allocator(&self) -> Global {
+        self.alloc
     }
 
     /// The cone of a row, where it stands.
@@ -102,7 +107,7 @@ impl Rows {
         requires inside { top < length self.old.items }
         requires above { top + 1 < self.old.room }
         requires splits { IsSplittableAt self.old.items top i j }
-        ensures split { IsTopSplit self.old.items top i j self.new.items }
+        ensures split { IsTopRowSplit self.old.items top i j self.new.items }
         ensures room { self.new.room ≡ self.old.room }
     {
         self.fill_above(top);

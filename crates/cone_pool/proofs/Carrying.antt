@@ -1,8 +1,7 @@
 -- A worker's part goes along with what a step leaves as it was.
 use Rattle.std.proofs.Common.{◌≡◌, ℕ, ◌+◌, ◌≤◌, List, [], ◌∷◌, ◌++◌, length, ap, ◌∙◌, sym, subst, arith, length-append}
-use Rattle.std.specs.Global.{Vec}
 use Rattle.unimodular_cone.specs.declared.Mode.{Mode}
-use Rattle.unimodular_cone.specs.declared.Cone.{Cone}
+use Rattle.unimodular_cone.specs.Shown.{ShownCone}
 use Rattle.unimodular_cone.specs.Paths.{Path}
 use Rattle.unimodular_cone.specs.Cones.{Matrix}
 use Rattle.search_core.specs.declared.Judged.{Judged}
@@ -29,7 +28,7 @@ module _ (m : Mode) (n : ℕ) (q : Matrix) (d : ℕ) where
         omega (arith, times_none p);
     judged = subst (λ (s : Seat). AreJudgedAt m n q d s v.judged) (sym h.seat)
         (subst (AreJudgedAt m n q d w.seat) (sym h.judged) part.judged);
-    cones = subst (λ (l : Vec Cone). AreCones n q d l.items) (sym h.cones) part.cones;
+    cones = subst (λ (l : List ShownCone). AreCones n q d l) (sym h.cones) part.cones;
     room = (let k : length v.kept ≡ 0 = ap length h.kept ∙ ap length none in omega arith);
   }
 
@@ -49,10 +48,10 @@ module _ (m : Mode) (n : ℕ) (q : Matrix) (d : ℕ) where
     room = part.room;
   }
 
-  abbrev pub with_cones : Member → Vec Cone → Member
+  abbrev pub with_cones : Member → List ShownCone → Member
   with_cones w cones = record { number = w.number; lot = w.lot; seat = w.seat; judged = w.judged; kept = w.kept; cones = cones }
 
-  pub restacked : (hand : List Path) (w : Member) (cones : Vec Cone) → AreCones n q d cones.items → IsWorkerPart m n q d hand w
+  pub restacked : (hand : List Path) (w : Member) (cones : List ShownCone) → AreCones n q d cones → IsWorkerPart m n q d hand w
       → IsWorkerPart m n q d hand (with_cones w cones)
   restacked hand w cones each part = record { counts = part.counts; judged = part.judged; cones = each; room = part.room }
 

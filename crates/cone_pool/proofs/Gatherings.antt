@@ -7,8 +7,7 @@ use Rattle.unimodular_cone.specs.Paths.{Path}
 use Rattle.unimodular_cone.specs.Cones.{Matrix}
 use Rattle.search_core.specs.Machine.{times, paths, below_splits, due}
 use Rattle.search_core.proofs.Times.{times_cons, times_none}
-use Rattle.std.specs.Global.{Vec}
-use Rattle.unimodular_cone.specs.declared.Cone.{Cone}
+use Rattle.unimodular_cone.specs.Shown.{ShownCone}
 use Rattle.bound_word.specs.Seats.{TableId, Seat}
 use Rattle.cone_pool.specs.Lots.{Token, IsEmptied, token_taken, deque_of}
 use Rattle.cone_pool.specs.Parts.{Member, given_to, times_handled, times_found, total_found, total_handled, AreCones, IsWorkerPart, IsMerged, IsReturned, HasGathered}
@@ -33,7 +32,7 @@ module _ (m : Mode) (n : ℕ) (q : Matrix) (d : ℕ) where
         let e : total_handled p all ≡ total_handled p (rest ++ w ∷ []) = ap (total_handled p) split in
         omega (arith, total_found-snoc p rest w, total_handled-snoc p rest w);
     judged = both_judged m n q d old.seat w.seat new.seat old.judged w.judged new.judged g.seat alike g.judged h.judged back.judged;
-    cones = subst (λ (l : Vec Cone). AreCones n q d l.items) (sym g.cones) h.cones;
+    cones = subst (λ (l : List ShownCone). AreCones n q d l) (sym g.cones) h.cones;
     none = g.kept ∙ h.none;
     number = g.number ∙ h.number;
     table_is = ap (λ (s : Seat). s.table) g.seat ∙ h.table_is;

@@ -1,5 +1,5 @@
 -- A judgement keeps a worker's part.
-use Rattle.std.proofs.Common.{◌≡◌, ℕ, ◌+◌, ◌-◌, ◌<◌, ◌≤◌, List, [], ◌∷◌, ◌++◌, length, refl, sym, ap, ◌∙◌, subst, arith, slice_index_or}
+use Rattle.std.proofs.Common.{◌≡◌, ℕ, ◌+◌, ◌-◌, ◌≤◌, List, [], ◌∷◌, ◌++◌, length, refl, sym, ap, ◌∙◌, subst, arith, slice_index_or, length-append}
 use Rattle.std.specs.List.{Contains}
 use Rattle.std.proofs.lemmas.List.Elements.{Contains-push}
 use Rattle.unimodular_cone.specs.declared.Mode.{Mode}
@@ -71,11 +71,10 @@ judges m n q d path w c offered word j judged some part none at is below_code be
     }
 
 -- the cone on top is the one at its path
-pub at_top : (n : ℕ) (q : Matrix) (d : ℕ) (path : Path) (cones xs : List ShownCone) (c : ShownCone) → AreCones n q d cones → IsTopAt path cones → xs ≡ cones
-    → 0 < length xs → c ≡ slice_index_or xs (length xs - 1) c → IsConeAt n q path c
-at_top n q d path cones xs c each t same some is =
-    let some' : 0 < length cones = subst (λ (s : List ShownCone). 0 < length s) same some in
-    let e : c ≡ t.top = top_read cones t.rest t.top c (length cones - 1) t.is (omega arith)
-    (is ∙ ap (λ (s : List ShownCone). slice_index_or s (length s - 1) c) same) in
+pub at_top : (n : ℕ) (q : Matrix) (d : ℕ) (path : Path) (cones : List ShownCone) (c : ShownCone) → AreCones n q d cones → IsTopAt path cones
+    → c ≡ slice_index_or cones (length cones - 1) c → IsConeAt n q path c
+at_top n q d path cones c each t is =
+    let many : length cones ≡ length t.rest + 1 = ap length t.is ∙ length-append t.rest (t.top ∷ []) in
+    let e : c ≡ t.top = top_read cones t.rest t.top c (length cones - 1) t.is (omega arith) is in
     let there : Contains cones t.top = subst (λ (s : List ShownCone). Contains s t.top) (sym t.is) (Contains-push t.rest t.top) in
     subst (λ (p : Path). IsConeAt n q p c) t.path_is (subst (λ (k : ShownCone). IsConeAt n q t.top.path k) (sym e) (each t.top there).0)

@@ -2,6 +2,7 @@ pub mod Accounts
 pub mod Balances
 pub mod Taking
 pub mod Tops
+pub mod Rows
 pub mod Making
 pub mod Putting
 pub mod Judgings

@@ -2,9 +2,7 @@
 use Rattle.std.proofs.Common.{◌≡◌, Bool, false, ℕ, zero, suc, ◌+◌, ◌<◌, ◌≤◌, ◌⊎◌, List, [], ◌∷◌, ◌++◌, length, map, take, drop, slice_index_or, refl, sym, ap, ap₂, ◌∙◌, subst, inl, inr, arith}
 use Rattle.std.specs.List.{Contains}
 use Rattle.exact_forms.proofs.Vectors.{contains_cons}
-use Rattle.std.specs.Global.{Vec}
 use Rattle.unimodular_cone.specs.declared.Mode.{Mode}
-use Rattle.unimodular_cone.specs.declared.Cone.{Cone}
 use Rattle.unimodular_cone.specs.Shown.{ShownCone}
 use Rattle.unimodular_cone.specs.Paths.{Path}
 use Rattle.unimodular_cone.specs.Cones.{Matrix}
@@ -108,8 +106,8 @@ module _ (m : Mode) (n : ℕ) (q : Matrix) (d : ℕ) where
       judged : v.judged.items ≡ []
       judged = none_yet.items
 
-      cones : v.cones.items ≡ []
-      cones = ap (λ (y : MemberRest). y.cones.items) b ∙ new.cones
+      cones : v.cones ≡ []
+      cones = ap (λ (y : MemberRest). y.cones) b ∙ new.cones
 
   pub readies : (t : TableId) (ds : List Deque) (ts : List Token) (j k o : ℕ) (old now : List Member) → ((p : Path) → token_taken p ts ≡ 0)
       → map deque_of ts ≡ ds → AreNewWorkers t j old → map rest_of_member now ≡ map rest_of_member old
@@ -221,12 +219,12 @@ module _ (m : Mode) (n : ℕ) (q : Matrix) (d : ℕ) where
       either one others (inl s) = subst (IsReturned m n q d t) s one
       either one others (inr r) = others r
 
-  abbrev chief : Lot → Seat → Judgements → Vec Cone → Member
+  abbrev chief : Lot → Seat → Judgements → List ShownCone → Member
   chief lot seat judged cones = record { number = 1; lot = lot; seat = seat; judged = judged; kept = []; cones = cones }
 
-  pub gathers_all : (t : ShownTable) (rest : List Member) (o : ℕ) (lot : Lot) (s seat : Seat) (judged : Judgements) (cones : Vec Cone)
+  pub gathers_all : (t : ShownTable) (rest : List Member) (o : ℕ) (lot : Lot) (s seat : Seat) (judged : Judgements) (cones : List ShownCone)
       → ((p : Path) → total_found p rest + times p ([] ∷ []) ≡ total_handled p rest)
-      → s ≡ first_seat t → seat ≡ seat_with_out (s.out + o) s → length rest ≡ o → AreNone judged → cones.items ≡ [] → lot ≡ new_lot lot.deque
+      → s ≡ first_seat t → seat ≡ seat_with_out (s.out + o) s → length rest ≡ o → AreNone judged → cones ≡ [] → lot ≡ new_lot lot.deque
       → HasGathered m n q d t.id rest (chief lot seat judged cones)
   gathers_all t rest o lot s seat judged cones sums fs ss many js cs l = record {
     counts = λ p.
@@ -252,9 +250,9 @@ module _ (m : Mode) (n : ℕ) (q : Matrix) (d : ℕ) where
     tokens = ap (λ (x : Lot). x.tokens) l;
   }
 
-  pub gathers_back : (t : ShownTable) (all rest : List Member) (o : ℕ) (lot : Lot) (s seat : Seat) (judged : Judgements) (cones : Vec Cone) → all ≡ rest
+  pub gathers_back : (t : ShownTable) (all rest : List Member) (o : ℕ) (lot : Lot) (s seat : Seat) (judged : Judgements) (cones : List ShownCone) → all ≡ rest
       → ((p : Path) → total_found p rest + times p ([] ∷ []) ≡ total_handled p rest)
-      → s ≡ first_seat t → seat ≡ seat_with_out (s.out + o) s → length rest ≡ o → AreNone judged → cones.items ≡ [] → lot ≡ new_lot lot.deque
+      → s ≡ first_seat t → seat ≡ seat_with_out (s.out + o) s → length rest ≡ o → AreNone judged → cones ≡ [] → lot ≡ new_lot lot.deque
       → HasGathered m n q d t.id all (chief lot seat judged cones)
   gathers_back t all rest o lot s seat judged cones e sums fs ss many js cs l =
       subst (λ (x : List Member). HasGathered m n q d t.id x (chief lot seat judged cones)) (sym e)

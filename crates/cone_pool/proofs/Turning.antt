@@ -1,11 +1,9 @@
 -- The stack after a judgement, and the children that are put into the deque.
 use Rattle.std.proofs.Common.{◌≡◌, ◌≢◌, ℕ, ◌+◌, ◌-◌, ◌<◌, ◌≤◌, ◌⊎◌, true, false, Bool, List, [], ◌∷◌, length, refl, sym, ap, ◌∙◌, subst, inl, inr, arith, length-append}
 use Rattle.std.specs.List.{Contains}
-use Rattle.std.specs.Global.{Vec}
 use Rattle.std.proofs.lemmas.List.Elements.{Contains-push, Contains-append_left, Contains-append_cases}
 use Rattle.exact_forms.proofs.Vectors.{contains_cons}
 use Rattle.unimodular_cone.specs.declared.Mode.{Mode}
-use Rattle.unimodular_cone.specs.declared.Cone.{Cone}
 use Rattle.unimodular_cone.specs.Paths.{Path}
 use Rattle.unimodular_cone.specs.Cones.{Matrix}
 use Rattle.unimodular_cone.specs.Shown.{ShownCone, IsConeAt, IsChild}
@@ -85,11 +83,11 @@ turned_cones m n q d path f cones new each (word, fate) t turns k there =
     by (AtLimit w) g s = old k (subst (λ (x : List ShownCone). Contains x k) s there)
     by (Wide w a) g s = old k (subst (λ (x : List ShownCone). Contains x k) s there)
 
-abbrev pub with_all : Member → Lot → List Path → Vec Cone → Member
+abbrev pub with_all : Member → Lot → List Path → List ShownCone → Member
 with_all w lot kept cones = record { number = w.number; lot = lot; seat = w.seat; judged = w.judged; kept = kept; cones = cones }
 
-pub children_put : (m : Mode) (n : ℕ) (q : Matrix) (d : ℕ) (paths : List Path) (w : Member) (lot : Lot) (kept : List Path) (cones : Vec Cone)
-    → IsWorkerPart m n q d paths w → IsSafe paths w.lot w.kept lot kept → AreCones n q d cones.items → IsWorkerPart m n q d [] (with_all w lot kept cones)
+pub children_put : (m : Mode) (n : ℕ) (q : Matrix) (d : ℕ) (paths : List Path) (w : Member) (lot : Lot) (kept : List Path) (cones : List ShownCone)
+    → IsWorkerPart m n q d paths w → IsSafe paths w.lot w.kept lot kept → AreCones n q d cones → IsWorkerPart m n q d [] (with_all w lot kept cones)
 children_put m n q d paths w lot kept cones part safe each = record {
   counts = λ p.
       let a = part.counts p in

@@ -15,8 +15,7 @@
 --     AreNewWorkers t number ws  each is new; they have this number and those after it, in order
 --     AllKeep whole ws       each keeps the whole list of its judgements, or none does
 use Rattle.std.specs.Prelude.{◌≡◌, Bool, false, ℕ, zero, suc, ◌+◌, List, [], ◌∷◌, map}
-use Rattle.std.specs.Global.{Vec}
-use Rattle.unimodular_cone.specs.declared.Cone.{Cone}
+use Rattle.unimodular_cone.specs.Shown.{ShownCone}
 use Rattle.unimodular_cone.specs.Paths.{Path}
 use Rattle.search_core.specs.Machine.{times}
 use Rattle.bound_word.specs.Seats.{TableId, Seat, greatest_word}
@@ -29,7 +28,7 @@ pub record MemberRest : Type 0 where
   pub seat : Seat
   pub judged : Judgements
   pub kept : List Path
-  pub cones : Vec Cone
+  pub cones : List ShownCone
 
 abbrev pub lot_of : Member → Lot
 lot_of w = w.lot
@@ -76,7 +75,7 @@ pub record IsNewWorker (table : TableId) (number : ℕ) (w : Member) : Type 0 wh
   pub given : w.seat.given ≡ greatest_word
   pub judged : AreNone w.judged
   pub kept : w.kept ≡ []
-  pub cones : w.cones.items ≡ []
+  pub cones : w.cones ≡ []
   pub lot : w.lot ≡ opening_lot number w.lot.deque
 
 abbrev pub AreNewWorkers : TableId → ℕ → List Member → Type 0

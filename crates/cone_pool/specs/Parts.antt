@@ -85,7 +85,7 @@ AreCones n q d cones = (c : ShownCone) → Contains cones c → IsConeAt n q c.p
 pub record IsWorkerPart (m : Mode) (n : ℕ) (q : Matrix) (d : ℕ) (hand : List Path) (w : Member) : Type 0 where
   pub counts : (p : Path) → times_received p w ≡ times_handled p w + times p hand
   pub judged : AreJudgedAt m n q d w.seat w.judged
-  pub cones : AreCones n q d w.cones.items
+  pub cones : AreCones n q d w.cones
   pub room : length w.kept + length hand ≤ 2
 
 abbrev pub deques_of : List (Stealer Path Global Account EachOnce) → List Deque
@@ -171,7 +171,7 @@ pub record HasGathered (m : Mode) (n : ℕ) (q : Matrix) (d : ℕ)
     (table : TableId) (rest : List Member) (w : Member) : Type 0 where
   pub counts : (p : Path) → total_found p rest + times_received p w ≡ total_handled p rest + times_handled p w
   pub judged : AreJudgedAt m n q d w.seat w.judged
-  pub cones : AreCones n q d w.cones.items
+  pub cones : AreCones n q d w.cones
   pub none : w.kept ≡ []
   pub number : w.number ≡ 1
   pub table_is : w.seat.table ≡ table

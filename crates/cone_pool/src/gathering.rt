@@ -74,7 +74,7 @@ pub(crate) fn merge(
     drain(&mut lot, &mut chief.lot)?;
     unkeep(&mut kept, &mut chief.lot)?;
     chief.judged.append(judged)?;
-    table.join(&mut chief.seat, seat);
+    chief.seat.join(table, seat);
     Ok(())
 }
 
@@ -128,7 +128,7 @@ pub(crate) fn conclude(
         kept: _,
         cones: _,
     } = chief;
-    let last = table.close(seat);
+    let last = table.close(seat.into_seat());
     Ok(Pooled {
         judged: judged.into_kept(),
         final_word: last.word,

@@ -4,6 +4,8 @@ ghost use Rattle.std.specs.Prelude.{◌≡◌, ◌<◌, ◌≤◌, ◌+◌, leng
 ghost use Rattle.bound_word.specs.Seats.{Seat, another_seat, with_one_out};
 ghost use Rattle.cone_pool.specs.Crews.{opening_lot, IsNewWorker, AreNewWorkers, AllKeep, seat_with_out};
 
+use crate::cone_stack::ConeStack;
+use crate::counted::CountedSeat;
 use crate::judgements::Judgements;
 use crate::kept::Kept;
 use crate::lot::Lot;
@@ -52,10 +54,10 @@ fn hire(
     Ok(Member {
         number: k + 1,
         lot,
-        seat: table.split(first),
+        seat: CountedSeat::of(table.split(first)),
         judged: Judgements::new(alloc, whole),
         kept: Kept::new(alloc),
-        cones: Vec::new(alloc),
+        cones: ConeStack::new(alloc),
     })
 }
 

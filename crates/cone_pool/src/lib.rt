@@ -1,6 +1,8 @@
 //! Workers that share a search: each has a deque of paths, and takes from the others' where its own is empty.
 #![tactic(auto)]
 
+mod cone_stack;
+mod counted;
 mod crew;
 mod gate;
 mod gathering;

@@ -11,6 +11,8 @@ ghost use Rattle.std.specs.Option.{option_to_list};
 ghost use Rattle.crossbeam_deque.specs.Handles.{stealer_deque};
 ghost use Rattle.cone_pool.specs.Parts.{TakesOnly, deques_of, IsWorkerPart, IsFateOnTop, IsJudgedAlone, IsSameMember};
 
+use crate::cone_stack::ConeStack;
+use crate::counted::{CountedSeat, count, uncount};
 use crate::gate::Gate;
 use crate::judgements::Judgements;
 use crate::kept::Kept;
@@ -18,12 +20,12 @@ use crate::lot::Lot;
 use crate::opening::put_children;
 use crate::rule::Thief;
 use crate::stack::{reach, ready, turned};
-use bound_word::{BoundSeat, BoundTable};
+use bound_word::BoundTable;
 use search_core::{Fate, Mode, code, judgement};
 use std::alloc::AllocError;
 use std::thread;
 use symmetric_matrix::SymInt;
-use unimodular_cone::{Cone, Path};
+use unimodular_cone::Path;
 
 /// How often a worker looks at all deques in vain before it ends.
 const SWEEPS: u64 = 67_108_864;
@@ -35,31 +37,10 @@ pub(crate) struct Member {
     /// It counts from 1.
     pub(crate) number: usize,
     pub(crate) lot: Lot,
-    pub(crate) seat: BoundSeat,
+    pub(crate) seat: CountedSeat,
     pub(crate) judged: Judgements,
     pub(crate) kept: Kept,
-    pub(crate) cones: Vec<Cone>,
-}
-
-/// A cone is judged, and the children of a Split are unfinished.
-fn count(table: &BoundTable, seat: &mut BoundSeat, fate: &Fate)
-    requires { seat.old.table ≡ table.now.id }
-    ensures { seat.new ≡ seat.old }
-{
-    match *fate {
-        Fate::Split { .. } => table.opened(seat, 1),
-        _ => table.ended(seat),
-    }
-}
-
-/// The paths that are kept are left to the coordinator.
-fn uncount(table: &BoundTable, seat: &mut BoundSeat, kept: usize)
-    requires { seat.old.table ≡ table.now.id }
-    ensures { seat.new ≡ seat.old }
-{
-    for _ in 0..kept {
-        table.ended(seat);
-    }
+    pub(crate) cones: ConeStack,
 }
 
 impl Member {
@@ -100,7 +81,7 @@ impl Member {
             if let Some(path) = self.steal(thieves) {
                 return Some(path);
             }
-            if table.idle(&mut self.seat) {
+            if self.seat.idle(table) {
                 return None;
             }
             thread::yield_now();
@@ -115,17 +96,15 @@ impl Member {
         requires table { self.old.seat.table ≡ table.now.id }
         requires room { HasRoom self.old.judged }
         requires none { self.old.kept ≡ [] }
-        requires top { IsTopAt path.now self.old.cones.items }
+        requires top { IsTopAt path.now self.old.cones }
         requires part { IsWorkerPart mode q.now.size (entry q.now) limit (path.now ∷ []) self.old }
         ensures part { IsWorkerPart mode q.now.size (entry q.now) limit (children_of path.now result) self.new }
-        ensures fate { IsFateOnTop mode limit result self.new.cones.items }
+        ensures fate { IsFateOnTop mode limit result self.new.cones }
         ensures rest { IsJudgedAlone self.old self.new }
     {
         let _n = q.n();
-        let Some(cone) = self.cones.last() else {
-            unreachable!()
-        };
-        let word = table.offer(&mut self.seat, code(mode, cone));
+        let cone = self.cones.top();
+        let word = self.seat.offer(table, code(mode, cone));
         let j = judgement(mode, cone, limit, word);
         let fate = j.fate;
         self.judged.note(mode, j, word);
@@ -136,8 +115,8 @@ impl Member {
     fn open(&mut self, mode: Mode, q: &SymInt, limit: u8, path: &Path, fate: &Fate)
         requires limited { limit ≤ 200 }
         requires none { self.old.kept ≡ [] }
-        requires top { IsTopAt path.now self.old.cones.items }
-        requires fate { IsFateOnTop mode limit fate.now self.old.cones.items }
+        requires top { IsTopAt path.now self.old.cones }
+        requires fate { IsFateOnTop mode limit fate.now self.old.cones }
         requires part { IsWorkerPart mode q.now.size (entry q.now) limit (children_of path.now fate.now) self.old }
         ensures part { IsWorkerPart mode q.now.size (entry q.now) limit [] self.new }
         ensures same { IsSameMember self.old self.new }
@@ -155,7 +134,7 @@ impl Member {
         requires table { self.old.seat.table ≡ table.now.id }
         requires room { HasRoom self.old.judged }
         requires none { self.old.kept ≡ [] }
-        requires top { IsTopAt path.now self.old.cones.items }
+        requires top { IsTopAt path.now self.old.cones }
         requires part { IsWorkerPart mode q.now.size (entry q.now) limit (path.now ∷ []) self.old }
         ensures part { IsWorkerPart mode q.now.size (entry q.now) limit [] self.new }
         ensures same { IsSameMember self.old self.new }
@@ -182,7 +161,7 @@ impl Member {
     {
         if !reach(&mut self.cones, q, limit, &path) {
             self.kept.add(path);
-            table.ended(&mut self.seat);
+            uncount(table, &mut self.seat, 1);
             return false;
         }
         self.treat(mode, q, limit, table, &path)
@@ -252,7 +231,7 @@ impl Member {
     }
 
     /// All turns of a worker, until it finds no path, or no memory.
-    pub(crate) fn work<G: Gate>(
+    fn turns<G: Gate>(
         &mut self,
         mode: Mode,
         q: &SymInt,
@@ -275,5 +254,27 @@ impl Member {
                 break;
             }
         }
+    }
+
+    /// All turns of a worker. What it borrowed from the count it gives back.
+    pub(crate) fn work<G: Gate>(
+        &mut self,
+        mode: Mode,
+        q: &SymInt,
+        limit: u8,
+        table: &BoundTable,
+        thieves: &[Thief],
+        gate: &G,
+    )
+        requires limited { limit ≤ 200 }
+        requires table { self.old.seat.table ≡ table.now.id }
+        requires deques { map deque_of self.old.lot.tokens ≡ deques_of thieves.now }
+        requires none { self.old.kept ≡ [] }
+        requires part { IsWorkerPart mode q.now.size (entry q.now) limit [] self.old }
+        ensures part { IsWorkerPart mode q.now.size (entry q.now) limit [] self.new }
+        ensures same { IsSameMember self.old self.new }
+    {
+        self.turns(mode, q, limit, table, thieves, gate);
+        self.seat.settle(table);
     }
 }

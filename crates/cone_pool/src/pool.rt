@@ -11,6 +11,8 @@ ghost use Rattle.search_core.specs.Machine.{times};
 ghost use Rattle.cone_pool.specs.Parts.{Member, IsReturned, total_found, total_handled};
 ghost use Rattle.cone_pool.specs.Crews.{AreNewWorkers, AllKeep};
 
+use crate::cone_stack::ConeStack;
+use crate::counted::CountedSeat;
 use crate::crew::work_all;
 use crate::gate::Gate;
 use crate::gathering::{conclude, gather};
@@ -100,10 +102,10 @@ fn search<R: Threads + Wait + Sync, G: Gate + Sync>(
     let mut chief = Member {
         number: 1,
         lot: Lot::new(alloc)?,
-        seat,
+        seat: CountedSeat::of(seat),
         judged: Judgements::new(alloc, whole),
         kept: Kept::new(alloc),
-        cones: Vec::new(alloc),
+        cones: ConeStack::new(alloc),
     };
     gather(&mut chief, members, mode, q, limit, &table)?;
     conclude(chief, mode, q, limit, table)
@@ -131,8 +133,8 @@ pub fn run_pool<R: Threads + Wait + Sync, G: Gate + Sync>(
     search(rt, alloc, workers, q, mode, limit, true, gate)
 }
 
-/// The same search, of whose judgements those are kept that an answer may look at, as a search on one thread keeps them:
-/// its memory does not grow with the number of cones. It takes the same arguments, and is refused where `run_pool` is.
+/// The same search, of whose judgements those are kept that an answer may look at, as a search on one thread keeps them.
+/// It takes the same arguments, and is refused where `run_pool` is.
 pub fn run_pool_part<R: Threads + Wait + Sync, G: Gate + Sync>(
     rt: &R,
     alloc: Global,

@@ -10,7 +10,7 @@ use crate::any_gate::AnyGate;
 use crate::leave::Leave;
 use cone_pool::{Gate, OpenGate, run_pool_part};
 use search_core::{Least, Mode, Searcher, Sign, settle_least_part, settle_sign_part};
-use serial_search::bound_wide;
+use serial_search::{bound_wide, least_in_turns, sign_in_turns};
 use std::alloc::Global;
 use std::sync::Wait;
 use std::thread::Threads;
@@ -25,12 +25,13 @@ pub struct PooledSearcher<'a, R: Threads + Wait + Sync, G: Gate + Sync> {
     alloc: Global,
     workers: usize,
     gate: &'a G,
+    turns_alone: u64,
     ghost few: { (1 ≤ workers) × (workers ≤ 16) },
 }
 
 impl<'a, R: Threads + Wait + Sync, G: Gate + Sync> PooledSearcher<'a, R, G> {
-    /// A searcher of this many workers, 1 to 16. Each of them passes the gate at the beginning of each of its turns. It takes no
-    /// memory until it searches.
+    /// A searcher of this many workers, 1 to 16, which share each search. Each of them passes the gate at the beginning of each of
+    /// its turns. It takes no memory until it searches.
     pub fn new(rt: &'a R, alloc: Global, workers: usize, gate: &'a G) -> PooledSearcher<'a, R, G>
         requires some { 1 ≤ workers }
         requires few { workers ≤ 16 }
@@ -40,7 +41,15 @@ impl<'a, R: Threads + Wait + Sync, G: Gate + Sync> PooledSearcher<'a, R, G> {
             alloc,
             workers,
             gate,
+            turns_alone: 0,
         }
+    }
+
+    /// The same searcher, which begins each search alone, and calls the workers where so many turns don't end it. A turn judges
+    /// one cone.
+    pub fn beginning_alone(mut self, turns: u64) -> PooledSearcher<'a, R, G> {
+        self.turns_alone = turns;
+        self
     }
 
     /// The least value at nonzero nonnegative integer vectors, and all vectors that attain it, at any gate.
@@ -70,6 +79,18 @@ impl<'a, R: Threads + Wait + Sync, G: Gate + Sync> PooledSearcher<'a, R, G> {
         requires bound_fits { BoundFits Mode.Least q.now.size (entry q.now) }
         ensures { IsLeastAnswer q.now.size (entry q.now) limit result }
     {
+        match least_in_turns(self.alloc, q, limit, self.turns_alone) {
+            Some(least) => least,
+            None => self.least_shared(q, limit),
+        }
+    }
+
+    /// The same, by workers.
+    fn least_shared(&self, q: &SymInt, limit: u8) -> Least
+        requires limited { limit ≤ 200 }
+        requires bound_fits { BoundFits Mode.Least q.now.size (entry q.now) }
+        ensures { IsLeastAnswer q.now.size (entry q.now) limit result }
+    {
         let mode = Mode::Least;
         match root(q) {
             Err(fail) => Least::Wide {
@@ -92,6 +113,17 @@ impl<'a, R: Threads + Wait + Sync, G: Gate + Sync> PooledSearcher<'a, R, G> {
 
     /// Whether some value is below 0.
     fn sign_within(&self, q: &SymInt, limit: u8) -> Sign
+        requires { limit ≤ 200 }
+        ensures { IsSignAnswer q.now.size (entry q.now) limit result }
+    {
+        match sign_in_turns(self.alloc, q, limit, self.turns_alone) {
+            Some(sign) => sign,
+            None => self.sign_shared(q, limit),
+        }
+    }
+
+    /// The same, by workers.
+    fn sign_shared(&self, q: &SymInt, limit: u8) -> Sign
         requires { limit ≤ 200 }
         ensures { IsSignAnswer q.now.size (entry q.now) limit result }
     {
@@ -119,12 +151,16 @@ impl<'a, R: Threads + Wait + Sync, G: Gate + Sync> PooledSearcher<'a, R, G> {
 impl<'a, R: Threads + Wait + Sync> Searcher for PooledSearcher<'a, R, OpenGate> {
     fn least(&mut self, q: &SymInt, limit: u8) -> Least {
         let leave = Leave::of(self.rt);
-        PooledSearcher::new(&leave, self.alloc, self.workers, self.gate).least(q, limit)
+        PooledSearcher::new(&leave, self.alloc, self.workers, self.gate)
+            .beginning_alone(self.turns_alone)
+            .least(q, limit)
     }
 
     fn sign(&mut self, q: &SymInt, limit: u8) -> Sign {
         let leave = Leave::of(self.rt);
-        PooledSearcher::new(&leave, self.alloc, self.workers, self.gate).sign(q, limit)
+        PooledSearcher::new(&leave, self.alloc, self.workers, self.gate)
+            .beginning_alone(self.turns_alone)
+            .sign(q, limit)
     }
 }
 
@@ -132,12 +168,16 @@ impl<'a, 'b, R: Threads + Wait + Sync> Searcher
     for PooledSearcher<'a, R, AnyGate<&'b (dyn Gate + Sync)>> {
     fn least(&mut self, q: &SymInt, limit: u8) -> Least {
         let leave = Leave::of(self.rt);
-        PooledSearcher::new(&leave, self.alloc, self.workers, self.gate).least(q, limit)
+        PooledSearcher::new(&leave, self.alloc, self.workers, self.gate)
+            .beginning_alone(self.turns_alone)
+            .least(q, limit)
     }
 
     fn sign(&mut self, q: &SymInt, limit: u8) -> Sign {
         let leave = Leave::of(self.rt);
-        PooledSearcher::new(&leave, self.alloc, self.workers, self.gate).sign(q, limit)
+        PooledSearcher::new(&leave, self.alloc, self.workers, self.gate)
+            .beginning_alone(self.turns_alone)
+            .sign(q, limit)
     }
 }
 

@@ -236,6 +236,19 @@ fn any_number_of_workers(rt: HostRuntime) -> Result<(), Fail> {
     Ok(())
 }
 
+/// Some of these searches end alone, and some are shared after a few turns.
+#[test]
+fn searches_that_begin_alone(rt: HostRuntime) -> Result<(), Fail> {
+    let alloc = rt.alloc();
+    for turns in [1, 2, 3, 5, 1000] {
+        let mut searcher = PooledSearcher::new(&rt, alloc, 2, &OpenGate).beginning_alone(turns);
+        assert_minima(&rt, alloc, &mut searcher)?;
+        assert_wide(&rt, alloc, &mut searcher)?;
+        assert_signs(&rt, alloc, &mut searcher)?;
+    }
+    Ok(())
+}
+
 #[test]
 fn either_searcher(rt: HostRuntime) -> Result<(), Fail> {
     let alloc = rt.alloc();

@@ -9,7 +9,7 @@ use Rattle.text_lines.specs.Spelling.{fraction_word}
 use Rattle.text_lines.proofs.Written.{spaced, join_spaced}
 use Rattle.matrix_text.specs.RationalMatrix.{RationalMatrix, rational_entry}
 use Rattle.cpfactor_lines.specs.Lines.{line}
-use Rattle.cpfactor_lines.specs.SampleTexts.{numbers_text, diagonal_text, visits_count_text, verdict_line, sample_text}
+use Rattle.cpfactor_lines.specs.SampleTexts.{numbers_text, diagonal_text, visits_count_text, verdict_line_text, sample_text}
 
 -- ---- what stands before the first byte that passes
 pub before_found : (p : ℕ → Bool) (xs : List ℕ) (i : ℕ) → Some i ≡ position p xs → take i xs ≡ before_first p xs
@@ -41,6 +41,6 @@ diagonal_end a old first mid new e f g =
 -- ---- the four lines
 pub summary_made : (n k first : ℕ) (a : RationalMatrix) (count : ℕ) (answer none numbers diagonal visits new : List ℕ) → none ≡ []
     → numbers ≡ none ++ numbers_text n k first → diagonal ≡ numbers ++ diagonal_text a → visits ≡ diagonal ++ visits_count_text count
-    → new ≡ visits ++ verdict_line answer → new ≡ sample_text n k first a count answer
+    → new ≡ visits ++ verdict_line_text answer → new ≡ sample_text n k first a count answer
 unfolding sample_text
 summary_made n k first a count answer none numbers diagonal visits new e f g h i = rw (i, h, g, f, e) refl

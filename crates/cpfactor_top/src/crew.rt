@@ -24,7 +24,10 @@ use std::sync::Wait;
 use std::thread::Threads;
 use unimodular_cone::Mode;
 
-/// The searcher of this many workers, 1 to 16, where they are several.
+/// The turns that a search takes in less time than its threads take to start.
+const TURNS_ALONE: u64 = 16_384;
+
+/// The searcher of this many workers, 1 to 16, where they are several. Short searches it makes alone.
 pub fn crew_of<'a, 'b, R: Threads + Wait + Sync>(
     rt: &'a R,
     alloc: Global,
@@ -36,7 +39,7 @@ pub fn crew_of<'a, 'b, R: Threads + Wait + Sync>(
     if workers < 2 {
         return None;
     }
-    Some(PooledSearcher::new(rt, alloc, usize::from(workers), gate))
+    Some(PooledSearcher::new(rt, alloc, usize::from(workers), gate).beginning_alone(TURNS_ALONE))
 }
 
 /// `solve` after reading, by this crew or, without one, by one worker.

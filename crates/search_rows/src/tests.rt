@@ -8,10 +8,21 @@ use unimodular_cone::Mode;
 
 const DEEP: &str = "cpmatrix 1 3\n10 -6 -7\n-6 4 5\n-7 5 20\n";
 
+/// `w·wᵗ + 10 I` for w = (4400, -9175, 4406, 4361): its search takes some 32,000 cones.
+const LONG: &str =
+    "cpmatrix 1 4\n19360010 -40370000 19386400 19188400\n-40370000 84180635 -40425050 -40012175\n\
+    19386400 -40425050 19412846 19214566\n19188400 -40012175 19214566 19018331\n";
+
 const NARROW: &str = "cpmatrix 1 2\n2 -3\n-3 6\n";
 
 /// A command line, the text of its file, the exit status, and what is written.
-const SEARCHES: [(&str, &str, u8, &str); 14] = [
+const SEARCHES: [(&str, &str, u8, &str); 15] = [
+    (
+        "minimum a",
+        LONG,
+        0,
+        "minimum 3005/1\nvectors 1\n8 11 7 8\n",
+    ),
     (
         "minimum a",
         "cpmatrix 1 3\n2 -1 0\n-1 2 -1\n0 -1 2\n",

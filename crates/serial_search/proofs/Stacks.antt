@@ -16,7 +16,7 @@ use Rattle.exact_forms.proofs.Vectors.{contains_cons, contains_here, contains_th
 use Rattle.search_core.specs.declared.Fate.{Fate}
 use Rattle.search_core.specs.declared.Fate.TheVariants.{Closed, Split, Low, Dropped, AtLimit, Wide}
 use Rattle.search_core.specs.declared.Judged.{Judged}
-use Rattle.search_core.specs.Fair.{code, start_word, bound_under, IsLowFate, IsEndFate, IsFate, IsIrrelevant, IsKeptOrIrrelevant, IsFair, IsFairPart}
+use Rattle.search_core.specs.Fair.{code, start_word, bound_under, IsSplit, IsLowFate, IsEndFate, IsFate, IsIrrelevant, IsKeptOrIrrelevant, IsFair, IsFairPart}
 use Rattle.search_core.specs.Judging.{shown_code, IsShownFate, IsJudgementOf}
 use Rattle.search_core.specs.Machine.{IsKept}
 use Rattle.search_core.proofs.ShownFates.{shown_code_at, shown_least_at, fate_at}
@@ -53,6 +53,35 @@ two_below d l s f le ne es ef = by (d - l) (omega arith) (omega arith) (omega ar
   where
     by : (x : ℕ) → d + 1 - s ≡ x → d + 1 - f ≡ x → d + 1 - l ≡ suc x → (2 ^ (d + 1 - s) - 1) + (2 ^ (d + 1 - f) - 1) < 2 ^ (d + 1 - l) - 1
     by x a b c = rw (a, b, c) (let e : 2 ^ suc x ≡ 2 ^ x + 2 ^ x = double x in let o : 1 ≤ 2 ^ x = some_power x in omega arith)
+
+-- ---- a turn leaves fewer
+module _ (d : ℕ) (stack front new : List ShownCone) (cone : ShownCone) (within : length cone.path ≤ d) (popped : IsOnTop cone front stack) where
+  pub fewer_cones : (f : Fate) → (IsSplit f → length cone.path ≢ d) → AreStacked cone f front new → cones_left d new < cones_left d stack
+  fewer_cones f short stacks = rw popped (by f short stacks)
+    where
+      here : 1 ≤ still d cone
+      here = let l : length cone.path ≤ d = within in some_still (d + 1 - length cone.path) (omega arith)
+
+      whole : cones_left d (front ++ cone ∷ []) ≡ cones_left d front + still d cone
+      whole = left-append d front (cone ∷ []) ∙ omega arith
+
+      gone : new ≡ front → cones_left d new < cones_left d (front ++ cone ∷ [])
+      gone e = let w : cones_left d (front ++ cone ∷ []) ≡ cones_left d front + still d cone = whole in let o : 1 ≤ still d cone = here in rw e (omega arith)
+
+      by : (f : Fate) → (IsSplit f → length cone.path ≢ d) → AreStacked cone f front new → cones_left d new < cones_left d (front ++ cone ∷ [])
+      by (Split a b w) short s =
+          let le : length cone.path ≤ d = within in
+          let w : cones_left d (front ++ cone ∷ []) ≡ cones_left d front + still d cone = whole in
+          let t : still d s.second + still d s.first < still d cone = two_below d (length cone.path) (length s.second.path) (length s.first.path) le (short tt)
+          (ap length s.is_second.path_is ∙ length-append cone.path (true ∷ [])) (ap length s.is_first.path_is ∙ length-append cone.path (false ∷ [])) in
+          let o : cones_left d (front ++ s.second ∷ s.first ∷ []) ≡ cones_left d front + (still d s.second + (still d s.first + 0)) =
+          left-append d front (s.second ∷ s.first ∷ []) in
+          rw s.stack (omega arith)
+      by (Closed w) short s = gone s
+      by (Low k) short s = gone s
+      by (Dropped w) short s = gone s
+      by (AtLimit w) short s = gone s
+      by (Wide w a) short s = gone s
 
 -- every judgement that was not kept is one that no answer looks at
 pub record HasKept (m : Mode) (word : ℕ) (all kept : List Judged) : Type 0 where
@@ -223,30 +252,15 @@ module _ (m : Mode) (n : ℕ) (q : Matrix) (d : ℕ) (stack front new : List Sho
 
   -- ---- it falls
   pub fewer_left : cones_left d new < cones_left d stack
-  fewer_left = rw popped (by j.fate judged.fate stacks)
+  fewer_left = fewer_cones d stack front new cone (h.cones cone on_top).1 popped j.fate (λ split. short j.fate judged.fate split) stacks
     where
-      here : 1 ≤ still d cone
-      here = let l : length cone.path ≤ d = (h.cones cone on_top).1 in some_still (d + 1 - length cone.path) (omega arith)
-
-      whole : cones_left d (front ++ cone ∷ []) ≡ cones_left d front + still d cone
-      whole = left-append d front (cone ∷ []) ∙ omega arith
-
-      gone : new ≡ front → cones_left d new < cones_left d (front ++ cone ∷ [])
-      gone e = let w : cones_left d (front ++ cone ∷ []) ≡ cones_left d front + still d cone = whole in let o : 1 ≤ still d cone = here in rw e (omega arith)
-
-      by : (f : Fate) → IsShownFate m cone d (min word (shown_code m cone)) f → AreStacked cone f front new → cones_left d new < cones_left d (front ++ cone ∷ [])
-      by (Split a b w) (e, u, ne, pair, fits) s =
-          let le : length cone.path ≤ d = (h.cones cone on_top).1 in
-          let w : cones_left d (front ++ cone ∷ []) ≡ cones_left d front + still d cone = whole in
-          let t : still d s.second + still d s.first < still d cone = two_below d (length cone.path) (length s.second.path) (length s.first.path) le ne
-          (ap length s.is_second.path_is ∙ length-append cone.path (true ∷ [])) (ap length s.is_first.path_is ∙ length-append cone.path (false ∷ [])) in
-          let o : cones_left d (front ++ s.second ∷ s.first ∷ []) ≡ cones_left d front + (still d s.second + (still d s.first + 0)) = left-append d front (s.second ∷ s.first ∷ []) in
-          rw s.stack (omega arith)
-      by (Closed w) g s = gone s
-      by (Low k) g s = gone s
-      by (Dropped w) g s = gone s
-      by (AtLimit w) g s = gone s
-      by (Wide w a) g s = gone s
+      short : (f : Fate) → IsShownFate m cone d (min word (shown_code m cone)) f → IsSplit f → length cone.path ≢ d
+      short (Split a b w) (e, u, ne, pair, fits) split = ne
+      short (Closed w) g split = absurd split
+      short (Low k) g split = absurd split
+      short (Dropped w) g split = absurd split
+      short (AtLimit w) g split = absurd split
+      short (Wide w a) g split = absurd split
 
 -- ---- a search that keeps every judgement, the last one first
 pub record IsSearchedPlainly (m : Mode) (n : ℕ) (q : Matrix) (d : ℕ) (stack : List ShownCone) (word : ℕ) (judged : List Judged) : Type 0 where

@@ -12,7 +12,7 @@ use symmetric_matrix::{IntVector, SymInt, VectorList};
 use unimodular_cone::{Path, WideEntry};
 
 /// The matrix `a b / b c`.
-fn two(alloc: Global, a: i128, b: i128, c: i128) -> Result<SymInt, Fail>
+pub(crate) fn two(alloc: Global, a: i128, b: i128, c: i128) -> Result<SymInt, Fail>
     requires first { nat_abs a ≤ 2 ^ 126 }
     requires beside { nat_abs b ≤ 2 ^ 126 }
     requires last { nat_abs c ≤ 2 ^ 126 }
@@ -21,7 +21,7 @@ fn two(alloc: Global, a: i128, b: i128, c: i128) -> Result<SymInt, Fail>
 }
 
 /// The matrix of three rows with this lower triangle.
-fn three(
+pub(crate) fn three(
     alloc: Global,
     a: i128,
     b: i128,
@@ -40,14 +40,14 @@ fn three(
     Ok(SymInt::from_lower(alloc, 3, &[a, b, c, d, e, f])?)
 }
 
-fn assert_path(rt: &impl Abort, path: &Path, digits: &[u8]) {
+pub(crate) fn assert_path(rt: &impl Abort, path: &Path, digits: &[u8]) {
     assert_eq!(rt; usize::from(path.len()), digits.len());
     for k in 0..path.len() {
         assert_eq!(rt; digits.get(usize::from(k)).copied(), Some(path.digit(k)));
     }
 }
 
-fn assert_vector(rt: &impl Abort, vector: &IntVector, coordinates: &[u64]) {
+pub(crate) fn assert_vector(rt: &impl Abort, vector: &IntVector, coordinates: &[u64]) {
     assert_eq!(rt; vector.as_slice(), coordinates);
 }
 
@@ -165,7 +165,7 @@ fn low_values(rt: HostRuntime) -> Result<(), Fail> {
 }
 
 /// 2^100, the limit of Gram entries.
-const LARGEST: i128 = 1267650600228229401496703205376;
+pub(crate) const LARGEST: i128 = 1267650600228229401496703205376;
 
 /// 2^64, a diagonal entry over its limit.
 const OVER: i128 = 18446744073709551616;

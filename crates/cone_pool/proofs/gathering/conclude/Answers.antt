@@ -12,15 +12,19 @@ pub returns-clause-part : goal.returns-clause-part
 returns-clause-part c =
     let done = c.in_ok-finish.ensures in
     let w = c.finish.new.self in
+    let word = rw c.into_seat.ensures at c.close-last.ensures.word in
+    let below = rw c.into_seat.ensures at c.close-last.ensures.below in
     rw c.into_kept.ensures (part_at_end c.args.mode c.args.q.now.size (entry c.args.q.now) c.args.limit c.close-last.result.word w.seat.told w.judged
-    c.close-last.ensures.below done.part.judged.keeps
+    below done.part.judged.keeps
     (all_fair c.args.mode c.args.q.now.size (entry c.args.q.now) c.args.limit c.args.table.id c.args.table.start c.close-last.result.word c.args.chief w
-    c.requires.gathered done.part done.same done.done.0 done.done.1 c.requires.start c.requires.small c.close-last.ensures.word c.close-last.ensures.below))
+    c.requires.gathered done.part done.same done.done.0 done.done.1 c.requires.start c.requires.small word below))
 
 pub returns-clause-whole : goal.returns-clause-whole
 returns-clause-whole c whole =
     let done = c.in_ok-finish.ensures in
     let w = c.finish.new.self in
+    let word = rw c.into_seat.ensures at c.close-last.ensures.word in
+    let below = rw c.into_seat.ensures at c.close-last.ensures.below in
     rw (c.into_kept.ensures, done.part.judged.keeps.each (done.same.whole ∙ whole))
     (all_fair c.args.mode c.args.q.now.size (entry c.args.q.now) c.args.limit c.args.table.id c.args.table.start c.close-last.result.word c.args.chief w
-    c.requires.gathered done.part done.same done.done.0 done.done.1 c.requires.start c.requires.small c.close-last.ensures.word c.close-last.ensures.below)
+    c.requires.gathered done.part done.same done.done.0 done.done.1 c.requires.start c.requires.small word below)

@@ -1,4 +1,4 @@
-use Rattle.std.specs.Prelude.{◌≡◌, ◌≤◌, ℕ, List, min, length}
+use Rattle.std.specs.Prelude.{◌≡◌, ℕ, List, min}
 use Rattle.std.proofs.Common.{arith, sym, subst}
 use Rattle.symmetric_matrix.specs.Symmetric.{entry}
 use Rattle.unimodular_cone.specs.Shown.{ShownCone}

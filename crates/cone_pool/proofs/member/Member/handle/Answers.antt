@@ -8,7 +8,7 @@ reach-requires c = c.requires.part.cones
 
 pub returns-then-not-reach-clause-part : goal.returns-then-not-reach-clause-part
 returns-then-not-reach-clause-part c =
-    kept_it c.args.mode c.args.q.now.size (entry c.args.q.now) c.args.limit c.args.path _ c.add.new.self c.ended.new.seat c.add.ensures c.ended.ensures
+    kept_it c.args.mode c.args.q.now.size (entry c.args.q.now) c.args.limit c.args.path _ c.add.new.self c.uncount.new.seat c.add.ensures c.uncount.ensures
     (restacked c.args.mode c.args.q.now.size (entry c.args.q.now) c.args.limit
     (c.args.path ∷ []) c.args.self.now c.reach.new.stack c.reach.ensures.cones c.requires.part)
 

@@ -5,7 +5,7 @@ use Rattle.symmetric_matrix.specs.Symmetric.{entry}
 use Rattle.unimodular_cone.specs.Shown.{IsFirstWideAt, IsWideWhere}
 use Rattle.unimodular_cone.proofs.ShownAt.{root_fits}
 use Rattle.serial_search.proofs.Holds.{wide_at_root, not_memory}
-use Rattle.copositive_minimum.proofs.pooled.PooledSearcher.sign_within.Goals as goal
+use Rattle.copositive_minimum.proofs.pooled.PooledSearcher.sign_shared.Goals as goal
 
 pub run_pool_part-requires-clause-root : goal.run_pool_part-requires-clause-root
 run_pool_part-requires-clause-root g c κs within = root_fits c.args.q.now.size (entry c.args.q.now) c.in-Ok._root c.in-Ok.ensures.made c.in-Ok.ensures.fits

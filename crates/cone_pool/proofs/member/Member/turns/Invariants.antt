@@ -1,7 +1,7 @@
 use Rattle.std.proofs.Common.{◌≡◌, []}
 use Rattle.symmetric_matrix.specs.Symmetric.{entry}
 use Rattle.cone_pool.specs.Parts.{IsWorkerPart, IsSameMember}
-use Rattle.cone_pool.proofs.member.Member.work.Given as goal
+use Rattle.cone_pool.proofs.member.Member.turns.Given as goal
 
 abbrev pub invariant-loop-turn : goal.invariant-loop-turn
 invariant-loop-turn g l = record {
