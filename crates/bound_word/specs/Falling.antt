@@ -33,10 +33,26 @@ abbrev pub away_view : View
 away_view = record { given = greatest_word; told = greatest_word; first = false; out = 0; out_before = 1; away = true }
 
 abbrev pub with_one_more : View → View
-with_one_more v = record { given = v.given; told = v.told; first = v.first; out = v.out + 1; out_before = v.out_before; away = v.away }
+with_one_more v =
+    record {
+      given = v.given;
+      told = v.told;
+      first = v.first;
+      out = v.out + 1;
+      out_before = v.out_before;
+      away = v.away;
+    }
 
 abbrev pub joined_view : View → View → View
-joined_view v w = record { given = min v.given w.given; told = min v.told w.told; first = v.first; out = v.out - 1; out_before = v.out; away = v.away }
+joined_view v w =
+    record {
+      given = min v.given w.given;
+      told = min v.told w.told;
+      first = v.first;
+      out = v.out - 1;
+      out_before = v.out;
+      away = v.away;
+    }
 
 abbrev pub least_given : List View → ℕ
 least_given [] = greatest_word

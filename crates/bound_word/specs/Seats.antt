@@ -33,10 +33,12 @@ abbrev pub with_one_out : Seat → Seat
 with_one_out s = record { table = s.table; given = s.given; told = s.told; first = s.first; out = s.out + 1 }
 
 abbrev pub after_offer : Seat → ℕ → ℕ → Seat
-after_offer s code word = record { table = s.table; given = min s.given code; told = word; first = s.first; out = s.out }
+after_offer s code word =
+    record { table = s.table; given = min s.given code; told = word; first = s.first; out = s.out }
 
 abbrev pub joined_seat : Seat → Seat → Seat
-joined_seat s t = record { table = s.table; given = min s.given t.given; told = min s.told t.told; first = s.first; out = s.out - 1 }
+joined_seat s t =
+    record { table = s.table; given = min s.given t.given; told = min s.told t.told; first = s.first; out = s.out - 1 }
 
 pub record IsSameSeat (old new : Seat) : Type 0 where
   pub table : new.table ≡ old.table

@@ -1,10 +1,12 @@
 -- What holds of a verdict none of whose checks fails.
-use Rattle.std.specs.Prelude.{◌≡◌, ℕ, zero, suc, ◌+◌, ◌-◌, ◌<◌, ◌⊎◌, nat_eq, Bool, true, false, ◌&&◌, int_lt, int_le, ℤ, pos, ◌≤ℤ◌, ◌<ℤ◌, List, [], ◌∷◌, ◌++◌, length, map, None}
+use Rattle.std.specs.Prelude.{◌≡◌, ℕ, zero, suc, ◌+◌, ◌-◌, ◌<◌, ◌⊎◌, nat_eq, Bool, true, false, ◌&&◌, int_lt, int_le, ℤ, pos, ◌≤ℤ◌, ◌<ℤ◌, List, [], ◌∷◌, ◌++◌}
+use Rattle.std.specs.Prelude.{length, map, None}
 use Rattle.std.specs.List.{All, list_all, range_with_len}
 use Rattle.std.proofs.Common.{arith, sym, ◌∙◌, ap, refl, inl, inr, subst, int_eq}
 use Rattle.std.proofs.lemmas.Int.{ints}
 use Rattle.std.proofs.lemmas.List.Elements.{All-head, All-tail}
 use Rattle.std.proofs.lemmas.List.Folds.{list_all-append}
+use Rattle.commutative_ring.proofs.SmallCases.{before_or_last, both_true, same_of_test}
 use Rattle.exact_forms.specs.Rational.{Rational}
 use Rattle.exact_forms.specs.Signs.{IsNegative}
 use Rattle.exact_forms.specs.Slacks.{slack, IsClosed}
@@ -31,23 +33,22 @@ use Rattle.certificate_checker.proofs.Checks.{none-append, test_passed}
 -- ---- the tree
 pub all_below : (p : ℕ → Bool) (n : ℕ) → list_all p (range_with_len 0 n) ≡ true → (k : ℕ) → k < n → p k ≡ true
 all_below p zero h k l = absurd (omega arith)
-all_below p (suc n) h k l = by (order k n l) (both (list_all p (range_with_len 0 n)) (p n) whole) (λ g m. all_below p n g k m)
+all_below p (suc n) h k l = by (before_or_last k n l) (both (list_all p (range_with_len 0 n)) (p n) whole) (λ g m. all_below p n g k m)
   where
     e : suc n ≡ n + 1
     e = omega arith
 
     whole : (list_all p (range_with_len 0 n) && (p n && true)) ≡ true
-    whole = sym (list_all-append p (range_with_len 0 n) (n ∷ [])) ∙ ap (list_all p) (sym (range_more n)) ∙ ap (λ (m : ℕ). list_all p (range_with_len 0 m)) (sym e) ∙ h
+    whole = sym (list_all-append p (range_with_len 0 n) (n ∷ [])) ∙ ap (list_all p) (sym (range_more n))
+        ∙ ap (λ (m : ℕ). list_all p (range_with_len 0 m)) (sym e) ∙ h
 
     both : (x y : Bool) → (x && (y && true)) ≡ true → (x ≡ true) × (y ≡ true)
     both true true h = (refl, refl)
     both true false h = absurd cc
     both false y h = absurd cc
 
-    order : (k n : ℕ) → k < suc n → (k < n) ⊎ (k ≡ n)
-    order k n l = grind arith
-
-    by : ((k < n) ⊎ (k ≡ n)) → (list_all p (range_with_len 0 n) ≡ true) × (p n ≡ true) → (list_all p (range_with_len 0 n) ≡ true → k < n → p k ≡ true) → p k ≡ true
+    by : ((k < n) ⊎ (k ≡ n)) → (list_all p (range_with_len 0 n) ≡ true) × (p n ≡ true) → (list_all p (range_with_len 0 n) ≡ true → k < n → p k ≡ true)
+        → p k ≡ true
     by (inl m) b rec = rec b.0 m
     by (inr same) b rec = ap p same ∙ b.1
 
@@ -68,7 +69,11 @@ record Reads (n : ℕ) (w : Matrix) (count levels : ℕ) (g : Generators) (due :
 
 pub split_step : (n : ℕ) (w : Matrix) (count levels index i j : ℕ) (g : Generators) (due : List Node) (more : Lines)
     → node_checks n w count index (record { generators = g; levels = suc levels } ∷ due) (Split i j ∷ more)
-    ≡ map made_check (mediant_ops n g (i - 1) (j - 1)) ++ node_checks n w count (index + 1) (record { generators = child g (i - 1) (j - 1); levels = levels } ∷ record { generators = child g (j - 1) (i - 1); levels = levels } ∷ due) more
+    ≡ map made_check (mediant_ops n g (i - 1) (j - 1))
+    ++ node_checks n w count (index + 1) (record { generators = child g (i - 1) (j - 1); levels = levels } ∷ record {
+      generators = child g (j - 1) (i - 1);
+      levels = levels;
+    } ∷ due) more
 unfolding node_checks
 split_step n w count levels index i j g due more =
     let some : nat_eq (suc levels) 0 ≡ false = grind arith in
@@ -86,11 +91,22 @@ node_reads n w count levels index g due (Leaf ∷ more) splits h =
     record { rest = more; index = index + 1; reads = (closed_is n (gram n w g) closed, refl); splits = All-tail (HasSplit n) Leaf more splits; passes = p.1 }
 node_reads n w count zero index g due (Split i j ∷ more) splits h = let p = test_passed (TreeShape index) false [] h in absurd (let e = p.0 in cc)
 node_reads n w count (suc levels) index g due (Split i j ∷ more) splits h =
-    let p = none-append (map made_check (mediant_ops n g (i - 1) (j - 1))) (node_checks n w count (index + 1) (record { generators = child g (i - 1) (j - 1); levels = levels } ∷ record { generators = child g (j - 1) (i - 1); levels = levels } ∷ due) more)
+    let p = none-append (map made_check (mediant_ops n g (i - 1) (j - 1)))
+    (node_checks n w count (index + 1) (record { generators = child g (i - 1) (j - 1); levels = levels } ∷ record {
+      generators = child g (j - 1) (i - 1);
+      levels = levels;
+    } ∷ due) more)
     (ap first_refusal (sym (split_step n w count levels index i j g due more)) ∙ h) in
-    let one = node_reads n w count levels (index + 1) (child g (i - 1) (j - 1)) (record { generators = child g (j - 1) (i - 1); levels = levels } ∷ due) more (All-tail (HasSplit n) (Split i j) more splits) p.1 in
+    let one = node_reads n w count levels (index + 1) (child g (i - 1) (j - 1)) (record { generators = child g (j - 1) (i - 1); levels = levels } ∷ due) more
+    (All-tail (HasSplit n) (Split i j) more splits) p.1 in
     let two = node_reads n w count levels one.index (child g (j - 1) (i - 1)) due one.rest one.splits one.passes in
-    record { rest = two.rest; index = two.index; reads = (All-head (HasSplit n) (Split i j) more splits, (one.rest, one.reads, two.reads)); splits = two.splits; passes = two.passes }
+    record {
+      rest = two.rest;
+      index = two.index;
+      reads = (All-head (HasSplit n) (Split i j) more splits, (one.rest, one.reads, two.reads));
+      splits = two.splits;
+      passes = two.passes;
+    }
 
 pub tree_reads : (n : ℕ) (w : Matrix) (lines : Lines) → All (HasSplit n) lines → first_refusal (tree_checks n w lines) ≡ None → TreeProves n w lines
 unfolding tree_checks TreeProves node_checks
@@ -104,12 +120,8 @@ tree_reads n w lines splits h =
 
 -- ---- numbers
 pub same_is : (x y : Rational) → same_number x y ≡ true → x ≡ y
-same_is x y h = let p = both (int_eq x.num y.num) (int_eq (pos x.den) (pos y.den)) h in same_parts x y (num_is x.num y.num p.0) (den_is x.den y.den p.1)
+same_is x y h = let p = both_true (int_eq x.num y.num) (int_eq (pos x.den) (pos y.den)) h in same_parts x y (num_is x.num y.num p.0) (den_is x.den y.den p.1)
   where
-    both : (t u : Bool) → (t && u) ≡ true → (t ≡ true) × (u ≡ true)
-    both true u h = (refl, h)
-    both false u h = absurd cc
-
     num_is : (a b : ℤ) → int_eq a b ≡ true → a ≡ b
     num_is a b h = grind (arith, ints)
 
@@ -130,14 +142,12 @@ value_right w value a h =
     below : (z : ℤ) → int_lt z (pos 0) ≡ true → z <ℤ pos 0
     below z h = grind (arith, ints)
 
-pub size_is : (m n : ℕ) → nat_eq m n ≡ true → m ≡ n
-size_is m n h = grind arith
-
-pub separator_right : (a : RationalMatrix) (w : Symmetric) (value : Rational) (tree : Lines) → All (HasSplit w.size) tree → first_refusal (separator_checks a w value tree) ≡ None → IsSeparation a w value tree
+pub separator_right : (a : RationalMatrix) (w : Symmetric) (value : Rational) (tree : Lines) → All (HasSplit w.size) tree
+    → first_refusal (separator_checks a w value tree) ≡ None → IsSeparation a w value tree
 unfolding separator_checks
 separator_right a w value tree splits h =
     let d = test_passed Dimension (nat_eq w.size a.size) (value_checks w value a ++ tree_checks w.size (entry w) tree) h in
-    let e = size_is w.size a.size d.0 in
+    let e = same_of_test w.size a.size d.0 in
     let p = none-append (value_checks w value a) (tree_checks w.size (entry w) tree) d.1 in
     let v = value_right w value a p.0 in
     let t : TreeProves a.size (entry w) tree = subst (λ (n : ℕ). TreeProves n (entry w) tree) e (tree_reads w.size (entry w) tree splits p.1) in

@@ -15,7 +15,8 @@ unfolding first_refusal
 refusal-append_some [] ys r h = absurd cc
 refusal-append_some (c ∷ xs) ys r h = by c.fails h (refusal-append_some xs ys r)
   where
-    by : (b : Bool) → (if b then Some c.refusal else first_refusal xs) ≡ Some r → (first_refusal xs ≡ Some r → first_refusal (xs ++ ys) ≡ Some r) → (if b then Some c.refusal else first_refusal (xs ++ ys)) ≡ Some r
+    by : (b : Bool) → (if b then Some c.refusal else first_refusal xs) ≡ Some r → (first_refusal xs ≡ Some r → first_refusal (xs ++ ys) ≡ Some r)
+        → (if b then Some c.refusal else first_refusal (xs ++ ys)) ≡ Some r
     by true h rec = h
     by false h rec = rec h
 
@@ -24,7 +25,8 @@ unfolding first_refusal
 refusal-append_none [] ys h = refl
 refusal-append_none (c ∷ xs) ys h = by c.fails h (refusal-append_none xs ys)
   where
-    by : (b : Bool) → (if b then Some c.refusal else first_refusal xs) ≡ None → (first_refusal xs ≡ None → first_refusal (xs ++ ys) ≡ first_refusal ys) → (if b then Some c.refusal else first_refusal (xs ++ ys)) ≡ first_refusal ys
+    by : (b : Bool) → (if b then Some c.refusal else first_refusal xs) ≡ None → (first_refusal xs ≡ None → first_refusal (xs ++ ys) ≡ first_refusal ys)
+        → (if b then Some c.refusal else first_refusal (xs ++ ys)) ≡ first_refusal ys
     by true h rec = absurd cc
     by false h rec = rec h
 
@@ -34,7 +36,8 @@ unfolding first_refusal
 none-append [] ys h = (refl, h)
 none-append (c ∷ xs) ys h = by c.fails h (none-append xs ys)
   where
-    by : (b : Bool) → (if b then Some c.refusal else first_refusal (xs ++ ys)) ≡ None → (first_refusal (xs ++ ys) ≡ None → (first_refusal xs ≡ None) × (first_refusal ys ≡ None))
+    by : (b : Bool) → (if b then Some c.refusal else first_refusal (xs ++ ys)) ≡ None
+        → (first_refusal (xs ++ ys) ≡ None → (first_refusal xs ≡ None) × (first_refusal ys ≡ None))
         → ((if b then Some c.refusal else first_refusal xs) ≡ None) × (first_refusal ys ≡ None)
     by true h rec = absurd cc
     by false h rec = rec h
@@ -44,7 +47,9 @@ unfolding first_refusal first_owed
 made_some [] op h = absurd cc
 made_some (o ∷ ops) op h = by (is_owed o) h (made_some ops op)
   where
-    by : (b : Bool) → (if b then Some o else first_owed is_owed ops) ≡ Some op → (first_owed is_owed ops ≡ Some op → first_refusal (map made_check ops) ≡ Some (Wide op)) → (if b then Some (Wide o) else first_refusal (map made_check ops)) ≡ Some (Wide op)
+    by : (b : Bool) → (if b then Some o else first_owed is_owed ops) ≡ Some op
+        → (first_owed is_owed ops ≡ Some op → first_refusal (map made_check ops) ≡ Some (Wide op))
+        → (if b then Some (Wide o) else first_refusal (map made_check ops)) ≡ Some (Wide op)
     by true h rec = cc
     by false h rec = rec h
 
@@ -53,7 +58,8 @@ unfolding first_refusal first_owed
 made_none [] h = refl
 made_none (o ∷ ops) h = by (is_owed o) h (made_none ops)
   where
-    by : (b : Bool) → (if b then Some o else first_owed is_owed ops) ≡ None → (first_owed is_owed ops ≡ None → first_refusal (map made_check ops) ≡ None) → (if b then Some (Wide o) else first_refusal (map made_check ops)) ≡ None
+    by : (b : Bool) → (if b then Some o else first_owed is_owed ops) ≡ None → (first_owed is_owed ops ≡ None → first_refusal (map made_check ops) ≡ None)
+        → (if b then Some (Wide o) else first_refusal (map made_check ops)) ≡ None
     by true h rec = absurd cc
     by false h rec = rec h
 
@@ -72,7 +78,8 @@ test_passed r true rest h = (refl, h)
 test_passed r false rest h = absurd cc
 
 -- operations, and then a test
-pub made_then_refused : (ops : List IntOp) (rest : List Check) (op : IntOp) → first_owed is_owed ops ≡ Some op → first_refusal (map made_check ops ++ rest) ≡ Some (Wide op)
+pub made_then_refused : (ops : List IntOp) (rest : List Check) (op : IntOp) → first_owed is_owed ops ≡ Some op
+    → first_refusal (map made_check ops ++ rest) ≡ Some (Wide op)
 made_then_refused ops rest op h = refusal-append_some (map made_check ops) rest (Wide op) (made_some ops op h)
 
 pub made_then : (ops : List IntOp) (rest : List Check) → first_owed is_owed ops ≡ None → first_refusal (map made_check ops ++ rest) ≡ first_refusal rest
@@ -83,7 +90,8 @@ pub checks_start : (f : ℕ → List Check) → first_refusal (steps f 0) ≡ No
 unfolding first_refusal
 checks_start f = ap first_refusal (steps_none f)
 
-pub checks_refused : (f : ℕ → List Check) (n k : ℕ) (r : Checked) → k < n → first_refusal (steps f k) ≡ None → first_refusal (f k) ≡ Some r → first_refusal (steps f n) ≡ Some r
+pub checks_refused : (f : ℕ → List Check) (n k : ℕ) (r : Checked) → k < n → first_refusal (steps f k) ≡ None → first_refusal (f k) ≡ Some r
+    → first_refusal (steps f n) ≡ Some r
 checks_refused f n k r l before here =
     let rest = steps_front f (k + 1) n (omega arith) in
     ap first_refusal rest.1

@@ -36,31 +36,37 @@ dot_ops_same n x y u v h k = steps_same (dot_step x y) (dot_step u v) n (λ j l.
         ap₂ (λ (a : ℤ) (b : ℤ). mul_op a b ∷ add_op (dot j x y) (a *ℤ b) ∷ []) (h j l) (k j l)
         ∙ ap (λ (s : ℤ). mul_op (u j) (v j) ∷ add_op s (u j *ℤ v j) ∷ []) (dot_same j x y u v (λ i m. h i (omega arith)) (λ i m. k i (omega arith)))
 
-step_is : (x y : List ℤ) (k : ℕ) (s a b : ℤ) → a ≡ numbers x k → b ≡ numbers y k → s ≡ dot k (numbers x) (numbers y) → mul_op a b ∷ add_op s (a *ℤ b) ∷ [] ≡ dot_step (numbers x) (numbers y) k
+step_is : (x y : List ℤ) (k : ℕ) (s a b : ℤ) → a ≡ numbers x k → b ≡ numbers y k → s ≡ dot k (numbers x) (numbers y)
+    → mul_op a b ∷ add_op s (a *ℤ b) ∷ [] ≡ dot_step (numbers x) (numbers y) k
 step_is x y k s a b is_a is_b e =
-    ap₂ (λ (u : ℤ) (v : ℤ). mul_op u v ∷ add_op s (u *ℤ v) ∷ []) is_a is_b ∙ ap (λ (t : ℤ). mul_op (numbers x k) (numbers y k) ∷ add_op t (numbers x k *ℤ numbers y k) ∷ []) e
+    ap₂ (λ (u : ℤ) (v : ℤ). mul_op u v ∷ add_op s (u *ℤ v) ∷ []) is_a is_b
+    ∙ ap (λ (t : ℤ). mul_op (numbers x k) (numbers y k) ∷ add_op t (numbers x k *ℤ numbers y k) ∷ []) e
 
 pub dot_starts : (x y : ℕ → ℤ) → first_owed is_owed (dot_ops 0 x y) ≡ None
 unfolding dot_ops
 dot_starts x y = loop_start is_owed (dot_step x y)
 
 -- the step at k, with the numbers that were read there
-pub dot_goes_on : (k : ℕ) (x y : List ℤ) (s a b z : ℤ) → a ≡ numbers x k → b ≡ numbers y k → s ≡ dot k (numbers x) (numbers y) → first_owed is_owed (dot_ops k (numbers x) (numbers y)) ≡ None
+pub dot_goes_on : (k : ℕ) (x y : List ℤ) (s a b z : ℤ) → a ≡ numbers x k → b ≡ numbers y k → s ≡ dot k (numbers x) (numbers y)
+    → first_owed is_owed (dot_ops k (numbers x) (numbers y)) ≡ None
     → answer is_owed (mul_op a b ∷ add_op s (a *ℤ b) ∷ []) (s +ℤ a *ℤ b) ≡ Ok z
     → (first_owed is_owed (dot_ops (k + 1) (numbers x) (numbers y)) ≡ None) × (z ≡ dot (k + 1) (numbers x) (numbers y))
 unfolding dot_ops
 dot_goes_on k x y s a b z is_a is_b e before here =
     let r = none_of_ok is_owed (mul_op a b ∷ add_op s (a *ℤ b) ∷ []) (s +ℤ a *ℤ b) z here in (
-      loop_more is_owed (dot_step (numbers x) (numbers y)) k before (ap (λ (ops : List IntOp). first_owed is_owed ops) (sym (step_is x y k s a b is_a is_b e)) ∙ r.0),
+      loop_more is_owed (dot_step (numbers x) (numbers y)) k before (ap (λ (ops : List IntOp). first_owed is_owed ops) (sym (step_is x y k s a b is_a is_b e))
+          ∙ r.0),
       sym r.1 ∙ ap₂ (λ (u : ℤ) (v : ℤ). s +ℤ u *ℤ v) is_a is_b ∙ ap (λ (u : ℤ). u +ℤ numbers x k *ℤ numbers y k) e ∙ sym (dot_more k (numbers x) (numbers y)),
     )
 
-pub dot_refused : (n k : ℕ) (x y : List ℤ) (s a b : ℤ) (op : IntOp) → k < n → a ≡ numbers x k → b ≡ numbers y k → s ≡ dot k (numbers x) (numbers y) → first_owed is_owed (dot_ops k (numbers x) (numbers y)) ≡ None
+pub dot_refused : (n k : ℕ) (x y : List ℤ) (s a b : ℤ) (op : IntOp) → k < n → a ≡ numbers x k → b ≡ numbers y k → s ≡ dot k (numbers x) (numbers y)
+    → first_owed is_owed (dot_ops k (numbers x) (numbers y)) ≡ None
     → answer is_owed (mul_op a b ∷ add_op s (a *ℤ b) ∷ []) (s +ℤ a *ℤ b) ≡ Err op → first_owed is_owed (dot_ops n (numbers x) (numbers y)) ≡ Some op
 unfolding dot_ops
 dot_refused n k x y s a b op l is_a is_b e before here =
     loop_refused is_owed (dot_step (numbers x) (numbers y)) n k op l before
-    (ap (λ (ops : List IntOp). first_owed is_owed ops) (sym (step_is x y k s a b is_a is_b e)) ∙ some_of_err is_owed (mul_op a b ∷ add_op s (a *ℤ b) ∷ []) (s +ℤ a *ℤ b) op here)
+    (ap (λ (ops : List IntOp). first_owed is_owed ops) (sym (step_is x y k s a b is_a is_b e))
+    ∙ some_of_err is_owed (mul_op a b ∷ add_op s (a *ℤ b) ∷ []) (s +ℤ a *ℤ b) op here)
 
 -- ---- one row after the other
 abbrev pub times_step : ℕ → (ℕ → ℕ → ℤ) → (ℕ → ℤ) → ℕ → List IntOp
@@ -73,7 +79,8 @@ times_same n rows other x y h k i l = dot_same n (rows i) x (other i) y (λ j m.
 pub times_ops_same : (n : ℕ) (rows other : ℕ → ℕ → ℤ) (x y : ℕ → ℤ) → ((i j : ℕ) → i < n → j < n → rows i j ≡ other i j) → ((k : ℕ) → k < n → x k ≡ y k)
     → times_ops n rows x ≡ times_ops n other y
 unfolding times_ops
-times_ops_same n rows other x y h k = steps_same (times_step n rows x) (times_step n other y) n (λ i l. dot_ops_same n (rows i) x (other i) y (λ j m. h i j l m) k)
+times_ops_same n rows other x y h k =
+    steps_same (times_step n rows x) (times_step n other y) n (λ i l. dot_ops_same n (rows i) x (other i) y (λ j m. h i j l m) k)
 
 pub times_starts : (n : ℕ) (rows : ℕ → ℕ → ℤ) (x : ℕ → ℤ) → first_owed is_owed (steps (times_step n rows x) 0) ≡ None
 times_starts n rows x = loop_start is_owed (times_step n rows x)

@@ -1,11 +1,13 @@
 -- Terms none of whose checks fails factor the matrix.
-use Rattle.std.specs.Prelude.{◌≡◌, ◌≢◌, ℕ, zero, suc, ◌+◌, ◌-◌, ◌<◌, ◌≤◌, ◌⊎◌, nat_eq, Bool, true, false, ◌&&◌, ◌||◌, int_lt, ℤ, pos, ◌≤ℤ◌, List, [], ◌∷◌, ◌++◌, length, map, slice_index_or, None}
+use Rattle.std.specs.Prelude.{◌≡◌, ◌≢◌, ℕ, zero, suc, ◌+◌, ◌-◌, ◌<◌, ◌≤◌, ◌⊎◌, nat_eq, Bool, true, false, ◌&&◌, ◌||◌, int_lt, ℤ, pos, List, [], ◌∷◌, ◌++◌}
+use Rattle.std.specs.Prelude.{length, map, slice_index_or, None}
 use Rattle.std.specs.List.{All}
-use Rattle.std.proofs.Common.{arith, sym, ◌∙◌, ap, ap₂, refl, inl, inr, subst}
+use Rattle.std.proofs.Common.{arith, sym, ◌∙◌, ap, ap₂, inl, inr, subst}
 use Rattle.std.proofs.lemmas.Int.{ints}
 use Rattle.std.proofs.lemmas.List.{get_or_default}
 use Rattle.std.proofs.lemmas.List.Elements.{All-from_get_or, All-get_or, All-weaker}
 use lib.IntN.{*ℤ_comm}
+use Rattle.commutative_ring.proofs.SmallCases.{at_least_or_at_most, both_true, positive_of_test, same_of_test}
 use Rattle.exact_forms.specs.Rational.{Rational, whole, ◌+ℚ◌, ◌*ℚ◌}
 use Rattle.exact_forms.specs.Signs.{IsPositive}
 use Rattle.exact_forms.specs.Vectors.{coordinate, IsNonzero, ComesBefore}
@@ -25,11 +27,7 @@ use Rattle.cone_tree_certificate.specs.VerdictText.{IsCheckable}
 use Rattle.certificate_checker.proofs.Checks.{none-append, test_passed, checks_each}
 use Rattle.certificate_checker.proofs.TermSums.{is_before, order_step, order_checks_are}
 use Rattle.certificate_checker.proofs.PairSums.{rational_entry_flip}
-use Rattle.certificate_checker.proofs.Accepted.{same_is, size_is, separator_right}
-
-both : (t u : Bool) → (t && u) ≡ true → (t ≡ true) × (u ≡ true)
-both true u h = (refl, h)
-both false u h = absurd cc
+use Rattle.certificate_checker.proofs.Accepted.{same_is, separator_right}
 
 pub record IsGood (terms : List WeightedVector) (k : ℕ) : Type 0 where
   pub weight : int_lt (pos 0) (term_at terms k).weight.num ≡ true
@@ -39,8 +37,9 @@ pub record IsGood (terms : List WeightedVector) (k : ℕ) : Type 0 where
 good_is : (terms : List WeightedVector) (k : ℕ) → is_good_term terms k ≡ true → IsGood terms k
 unfolding is_good_term
 good_is terms k h =
-    let p = both (int_lt (pos 0) (term_at terms k).weight.num && has_place (term_at terms k).vector) (nat_eq k 0 || comes_before (term_at terms (k - 1)).vector (term_at terms k).vector) h in
-    let q = both (int_lt (pos 0) (term_at terms k).weight.num) (has_place (term_at terms k).vector) p.0 in
+    let p = both_true (int_lt (pos 0) (term_at terms k).weight.num && has_place (term_at terms k).vector)
+    (nat_eq k 0 || comes_before (term_at terms (k - 1)).vector (term_at terms k).vector) h in
+    let q = both_true (int_lt (pos 0) (term_at terms k).weight.num) (has_place (term_at terms k).vector) p.0 in
     record { weight = q.0; place = q.1; after = p.1 }
 
 some_place : (x : List ℕ) → has_place x ≡ true → (p : ℕ) × (p < length x) × (slice_index_or x p 0 ≢ 0)
@@ -53,11 +52,13 @@ module _ (terms : List WeightedVector) (good : (k : ℕ) → k < length terms �
   next_before k l =
       let not_first : nat_eq (k + 1) 0 ≡ false = grind arith in
       let less : k + 1 - 1 ≡ k = omega arith in
-      let h : comes_before (term_at terms (k + 1 - 1)).vector (term_at terms (k + 1)).vector ≡ true = sym (ap (λ (b : Bool). b || comes_before (term_at terms (k + 1 - 1)).vector (term_at terms (k + 1)).vector) not_first) ∙ (good (k + 1) l).after in
+      let h : comes_before (term_at terms (k + 1 - 1)).vector (term_at terms (k + 1)).vector ≡ true =
+      sym (ap (λ (b : Bool). b || comes_before (term_at terms (k + 1 - 1)).vector (term_at terms (k + 1)).vector) not_first) ∙ (good (k + 1) l).after in
       subst (λ (m : ℕ). ComesBefore (term_at terms m).vector (term_at terms (k + 1)).vector) less (is_before _ _ h)
 
   chain : (i m : ℕ) → i + m + 1 < length terms → ComesBefore (term_at terms i).vector (term_at terms (i + m + 1)).vector
-  chain i zero l = let e : i + 0 + 1 ≡ i + 1 = omega arith in subst (λ (k : ℕ). ComesBefore (term_at terms i).vector (term_at terms k).vector) (sym e) (next_before i (omega arith))
+  chain i zero l = let e : i + 0 + 1 ≡ i + 1 = omega arith in
+      subst (λ (k : ℕ). ComesBefore (term_at terms i).vector (term_at terms k).vector) (sym e) (next_before i (omega arith))
   chain i (suc m) l =
       let e : i + m + 1 + 1 ≡ i + suc m + 1 = omega arith in
       let next = next_before (i + m + 1) (omega arith) in
@@ -75,24 +76,29 @@ sum_flip (t ∷ ts) i j =
     ∙ ap₂ (λ (z : ℤ) (s : Rational). t.weight *ℚ whole z +ℚ s) (*ℤ_comm (coordinate t.vector i) (coordinate t.vector j)) (sum_flip ts i j)
     ∙ sym (weighted_sum-cons t ts j i)
 
-sum_at : (a : RationalMatrix) (terms : List WeightedVector) → first_refusal (by_places a.size (sum_checks a terms)) ≡ None → (i j : ℕ) → i < a.size → j ≤ i → weighted_sum terms i j ≡ rational_entry a i j
+sum_at : (a : RationalMatrix) (terms : List WeightedVector) → first_refusal (by_places a.size (sum_checks a terms)) ≡ None → (i j : ℕ) → i < a.size → j ≤ i
+    → weighted_sum terms i j ≡ rational_entry a i j
 unfolding sum_checks
 sum_at a terms h i j li lj =
     let row = checks_each (λ (i : ℕ). steps (sum_checks a terms i) (i + 1)) a.size i li h in
     let place = checks_each (sum_checks a terms i) (i + 1) j (omega arith) row in
-    let p = none-append (map made_check (steps (weighted_step terms i j) (length terms))) (test (SumDiffers (i + 1) (j + 1)) (same_number (weighted_sum terms i j) (rational_entry a i j)) ∷ []) place in
-    same_is (weighted_sum terms i j) (rational_entry a i j) (test_passed (SumDiffers (i + 1) (j + 1)) (same_number (weighted_sum terms i j) (rational_entry a i j)) [] p.1).0
+    let p = none-append (map made_check (steps (weighted_step terms i j) (length terms)))
+    (test (SumDiffers (i + 1) (j + 1)) (same_number (weighted_sum terms i j) (rational_entry a i j)) ∷ []) place in
+    same_is (weighted_sum terms i j) (rational_entry a i j)
+    (test_passed (SumDiffers (i + 1) (j + 1)) (same_number (weighted_sum terms i j) (rational_entry a i j)) [] p.1).0
 
-pub factors_right : (a : RationalMatrix) (n : ℕ) (terms : List WeightedVector) → All (λ term. length term.vector ≡ n) terms → first_refusal (factors_checks a n terms) ≡ None → (n ≡ a.size) × IsFactorization a.size (rational_entry a) terms
+pub factors_right : (a : RationalMatrix) (n : ℕ) (terms : List WeightedVector) → All (λ term. length term.vector ≡ n) terms
+    → first_refusal (factors_checks a n terms) ≡ None → (n ≡ a.size) × IsFactorization a.size (rational_entry a) terms
 unfolding factors_checks factor_checks
 factors_right a n terms sized h = (
   e,
   record {
-    positive = All-from_get_or (λ term. IsPositive term.weight) terms none (λ k l. record { numerator = above (term_at terms k).weight.num (good k l).weight });
+    positive = All-from_get_or (λ term. IsPositive term.weight) terms none
+        (λ k l. record { numerator = positive_of_test (term_at terms k).weight.num (good k l).weight });
     sized = All-weaker (λ term. length term.vector ≡ n) (λ term. length term.vector ≡ a.size) (λ term f. f ∙ e) terms sized;
     nonzero = All-from_get_or (λ term. IsNonzero a.size term.vector) terms none (λ k l. nonzero_at k l);
     distinct = λ i j d l m same. differ i j d l m same;
-    sum = λ i j li lj. by i j li lj (total i j);
+    sum = λ i j li lj. by i j li lj (at_least_or_at_most i j);
   },
 )
   where
@@ -103,16 +109,15 @@ factors_right a n terms sized h = (
     d = test_passed Dimension (nat_eq n a.size) (order_checks terms ++ by_places a.size (sum_checks a terms)) h
 
     e : n ≡ a.size
-    e = size_is n a.size d.0
+    e = same_of_test n a.size d.0
 
     parts : (first_refusal (order_checks terms) ≡ None) × (first_refusal (by_places a.size (sum_checks a terms)) ≡ None)
     parts = none-append (order_checks terms) (by_places a.size (sum_checks a terms)) d.1
 
     good : (k : ℕ) → k < length terms → IsGood terms k
-    good k l = good_is terms k (test_passed (BadTerm (k + 1)) (is_good_term terms k) [] (checks_each (order_step terms) (length terms) k l (ap first_refusal (sym (order_checks_are terms)) ∙ parts.0))).0
-
-    above : (z : ℤ) → int_lt (pos 0) z ≡ true → pos 1 ≤ℤ z
-    above z h = grind (arith, ints)
+    good k l = good_is terms k
+        (test_passed (BadTerm (k + 1)) (is_good_term terms k) []
+        (checks_each (order_step terms) (length terms) k l (ap first_refusal (sym (order_checks_are terms)) ∙ parts.0))).0
 
     nonzero_at : (k : ℕ) → k < length terms → IsNonzero a.size (term_at terms k).vector
     nonzero_at k l =
@@ -124,11 +129,9 @@ factors_right a n terms sized h = (
     differ i j d l m same =
         let first : slice_index_or terms i d ≡ term_at terms i = get_or_default terms i d none (omega arith) in
         let second : slice_index_or terms j d ≡ term_at terms j = get_or_default terms j d none m in
-        let equal : (term_at terms i).vector ≡ (term_at terms j).vector = sym (ap (λ (t : WeightedVector). t.vector) first) ∙ same ∙ ap (λ (t : WeightedVector). t.vector) second in
+        let equal : (term_at terms i).vector ≡ (term_at terms j).vector = sym (ap (λ (t : WeightedVector). t.vector) first) ∙ same
+        ∙ ap (λ (t : WeightedVector). t.vector) second in
         before_irreflexive (term_at terms j).vector (subst (λ (x : List ℕ). ComesBefore x (term_at terms j).vector) equal (before terms good i j l m))
-
-    total : (i j : ℕ) → (j ≤ i) ⊎ (i ≤ j)
-    total i j = grind arith
 
     by : (i j : ℕ) → i < a.size → j < a.size → ((j ≤ i) ⊎ (i ≤ j)) → weighted_sum terms i j ≡ rational_entry a i j
     by i j li lj (inl below) = sum_at a terms parts.1 i j li below

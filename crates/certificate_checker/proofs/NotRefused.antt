@@ -1,10 +1,12 @@
 -- Of the checks of a right verdict only operations can fail.
-use Rattle.std.specs.Prelude.{◌≡◌, ℕ, zero, suc, ◌+◌, ◌-◌, ◌<◌, ◌≤◌, ◌⊎◌, nat_eq, Bool, true, false, ◌&&◌, ◌||◌, int_lt, int_le, ℤ, pos, ◌≤ℤ◌, ◌<ℤ◌, List, [], ◌∷◌, ◌++◌, length, map, slice_index_or, Some, None}
+use Rattle.std.specs.Prelude.{◌≡◌, ℕ, zero, suc, ◌+◌, ◌-◌, ◌<◌, ◌≤◌, ◌⊎◌, nat_eq, Bool, true, false, ◌&&◌, ◌||◌, int_lt, int_le, ℤ, pos, ◌≤ℤ◌, ◌<ℤ◌, List, []}
+use Rattle.std.specs.Prelude.{◌∷◌, ◌++◌, length, map, slice_index_or, Some, None}
 use Rattle.std.specs.List.{All, AllByRecursion, list_all, range_with_len}
 use Rattle.std.proofs.Common.{arith, sym, ◌∙◌, ap, refl, inl, inr, subst, int_eq}
 use Rattle.std.proofs.lemmas.Int.{ints}
 use Rattle.std.proofs.lemmas.List.Elements.{All-get_or}
 use Rattle.std.proofs.lemmas.List.Folds.{list_all-append}
+use Rattle.commutative_ring.proofs.SmallCases.{test_of_same}
 use Rattle.exact_forms.specs.Rational.{Rational, whole}
 use Rattle.exact_forms.specs.Signs.{IsPositive, IsNegative}
 use Rattle.exact_forms.specs.Slacks.{slack, IsClosed}
@@ -77,9 +79,6 @@ safe-refusal (x ∷ xs) hs = by x hs.0 (safe-refusal xs hs.1)
     by x (inr (op, same)) rest = subst (λ (c : Check). IsNoneOrWide (first_refusal (c ∷ xs))) (sym same) (made op (is_owed op) refl rest)
 
 -- ---- numbers
-size_same : (m n : ℕ) → m ≡ n → nat_eq m n ≡ true
-size_same m n e = grind arith
-
 number_same : (x y : Rational) → x ≡ y → same_number x y ≡ true
 number_same x y e = rw (e, same y.num, same (pos y.den)) refl
   where
@@ -123,7 +122,7 @@ module _ (n : ℕ) (a : ℕ → ℕ → Rational) (terms : List WeightedVector) 
 factors_safe : (a : RationalMatrix) (n : ℕ) (terms : List WeightedVector) → IsRight a (Factors n terms) → IsInOrder terms → AreSafe (factors_checks a n terms)
 unfolding factors_checks factor_checks sum_checks
 factors_safe a n terms right ordered = (
-  safe-test Dimension (nat_eq n a.size) (size_same n a.size right.0),
+  safe-test Dimension (nat_eq n a.size) (test_of_same n a.size right.0),
   safe-append _ (by_places a.size (sum_checks a terms))
       (subst AreSafe (sym (order_checks_are terms)) (safe-steps (order_step terms) (length terms)
       (λ k l. (safe-test (BadTerm (k + 1)) (is_good_term terms k) (term_good a.size (rational_entry a) terms right.1 ordered k l), tt))))
@@ -199,7 +198,7 @@ separator_safe : (a : RationalMatrix) (w : Symmetric) (value : Rational) (tree :
     → AreSafe (separator_checks a w value tree)
 unfolding separator_checks
 separator_safe a w value tree right = (
-  safe-test Dimension (nat_eq w.size a.size) (size_same w.size a.size right.size),
+  safe-test Dimension (nat_eq w.size a.size) (test_of_same w.size a.size right.size),
   safe-append (value_checks w value a) (tree_checks w.size (entry w) tree) (value_safe w value a right.separates.negative right.value_is)
       (tree_safe w.size (entry w) tree (subst (λ (n : ℕ). TreeProves n (entry w) tree) (sym right.size) right.proved)),
 )

@@ -38,7 +38,8 @@ made_then_are (op ∷ ops) rest h = (tt, made_then_are ops rest h)
 
 steps_are : (f : ℕ → List Check) → ((k : ℕ) → AreRefusals (f k)) → (n : ℕ) → AreRefusals (steps f n)
 steps_are f h zero = subst AreRefusals (sym (steps_none f)) tt
-steps_are f h (suc n) = let e : suc n ≡ n + 1 = omega arith in subst AreRefusals (sym (ap (steps f) e ∙ steps_more f n)) (are-append (steps f n) (f n) (steps_are f h n) (h n))
+steps_are f h (suc n) = let e : suc n ≡ n + 1 = omega arith in
+    subst AreRefusals (sym (ap (steps f) e ∙ steps_more f n)) (are-append (steps f n) (f n) (steps_are f h n) (h n))
 
 leaf_are : (n : ℕ) (w : Matrix) (v : Generators) (index : ℕ) → AreRefusals (leaf_checks n w v index)
 unfolding leaf_checks
@@ -49,22 +50,30 @@ unfolding node_checks
 node_are n w count index [] [] = tt
 node_are n w count index [] (line ∷ more) = (tt, tt)
 node_are n w count index (node ∷ due) [] = (tt, tt)
-node_are n w count index (node ∷ due) (Leaf ∷ more) = are-append (leaf_checks n w node.generators index) (node_checks n w count (index + 1) due more) (leaf_are n w node.generators index) (node_are n w count (index + 1) due more)
-node_are n w count index (node ∷ due) (Split i j ∷ more) = by (nat_eq node.levels 0) (node_are n w count (index + 1) (children node (i - 1) (j - 1) ++ due) more)
+node_are n w count index (node ∷ due) (Leaf ∷ more) =
+    are-append (leaf_checks n w node.generators index) (node_checks n w count (index + 1) due more) (leaf_are n w node.generators index)
+    (node_are n w count (index + 1) due more)
+node_are n w count index (node ∷ due) (Split i j ∷ more) =
+    by (nat_eq node.levels 0) (node_are n w count (index + 1) (children node (i - 1) (j - 1) ++ due) more)
   where
     by : (b : Bool) → AreRefusals (node_checks n w count (index + 1) (children node (i - 1) (j - 1) ++ due) more)
-        → AreRefusals (if b then test (TreeShape index) false ∷ [] else (map made_check (mediant_ops n node.generators (i - 1) (j - 1)) ++ node_checks n w count (index + 1) (children node (i - 1) (j - 1) ++ due) more))
+        → AreRefusals (if b then test (TreeShape index) false
+        ∷ [] else (map made_check (mediant_ops n node.generators (i - 1) (j - 1))
+        ++ node_checks n w count (index + 1) (children node (i - 1) (j - 1) ++ due) more))
     by true h = (tt, tt)
     by false h = made_then_are (mediant_ops n node.generators (i - 1) (j - 1)) (node_checks n w count (index + 1) (children node (i - 1) (j - 1) ++ due) more) h
 
 sums_are : (a : RationalMatrix) (terms : List WeightedVector) (i j : ℕ) → AreRefusals (sum_checks a terms i j)
 unfolding sum_checks
-sums_are a terms i j = made_then_are (steps (weighted_step terms i j) (length terms)) (test (SumDiffers (i + 1) (j + 1)) (same_number (weighted_sum terms i j) (rational_entry a i j)) ∷ []) (tt, tt)
+sums_are a terms i j =
+    made_then_are (steps (weighted_step terms i j) (length terms))
+    (test (SumDiffers (i + 1) (j + 1)) (same_number (weighted_sum terms i j) (rational_entry a i j)) ∷ []) (tt, tt)
 
 values_are : (w : Symmetric) (value : Rational) (a : RationalMatrix) → AreRefusals (value_checks w value a)
 unfolding value_checks
 values_are w value a =
-    made_then_are (pair_ops w a) (test NotNegative (is_below_zero (inner_ℚ a.size (entry w) (rational_entry a))) ∷ test ValueDiffers (same_number (inner_ℚ a.size (entry w) (rational_entry a)) value) ∷ []) (tt, (tt, tt))
+    made_then_are (pair_ops w a) (test NotNegative (is_below_zero (inner_ℚ a.size (entry w) (rational_entry a)))
+    ∷ test ValueDiffers (same_number (inner_ℚ a.size (entry w) (rational_entry a)) value) ∷ []) (tt, (tt, tt))
 
 pub all_refuse : (a : RationalMatrix) (v : Verdict) → AreRefusals (checks a v)
 unfolding factors_checks separator_checks factor_checks order_checks tree_checks
@@ -75,7 +84,8 @@ all_refuse a (Factors n terms) = (
 )
 all_refuse a (Separator w value tree) = (
   tt,
-  are-append (value_checks w value a) (node_checks w.size (entry w) (length tree) 1 (record { generators = unit_vectors; levels = 200 } ∷ []) tree) (values_are w value a)
+  are-append (value_checks w value a) (node_checks w.size (entry w) (length tree) 1 (record { generators = unit_vectors; levels = 200 } ∷ []) tree)
+      (values_are w value a)
       (node_are w.size (entry w) (length tree) 1 (record { generators = unit_vectors; levels = 200 } ∷ []) tree),
 )
 

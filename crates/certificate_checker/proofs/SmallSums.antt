@@ -1,8 +1,9 @@
 -- Sums of small numbers, none of whose operations is owed.
-use Rattle.std.specs.Prelude.{◌≡◌, ℕ, zero, suc, ◌+◌, ◌-◌, ◌*◌, ◌^◌, ◌<◌, ◌≤◌, nat_abs, nat_lt, Bool, false, ℤ, ◌+ℤ◌, ◌*ℤ◌, List, [], ◌∷◌, Some, None, if◌then◌else◌}
-use Rattle.std.proofs.Common.{arith, ◌∙◌, ap, ap₂, refl, to_z, of_z, to_z-of_z}
+use Rattle.std.specs.Prelude.{◌≡◌, ℕ, zero, suc, ◌+◌, ◌-◌, ◌*◌, ◌^◌, ◌<◌, ◌≤◌, nat_abs, nat_lt, Bool, false, ℤ, ◌+ℤ◌, ◌*ℤ◌, List, [], ◌∷◌, Some, None}
+use Rattle.std.specs.Prelude.{if◌then◌else◌}
+use Rattle.std.proofs.Common.{arith, ◌∙◌, ap, ap₂, refl, to_z, of_z}
 use mir.Syntax.{w64, w128}
-use Rattle.std.proofs.lemmas.Int.{ints, unsigned_abs-mul, fits_signed_from_abs}
+use Rattle.std.proofs.lemmas.Int.{ints, unsigned_abs-mul}
 use Rattle.std.proofs.lemmas.Nat.{mul-le}
 use Rattle.exact_forms.specs.Sums.{sum_to}
 use Rattle.exact_forms.proofs.Sums.{sum_to-zero, sum_to_more}
@@ -10,6 +11,8 @@ use Rattle.symmetric_matrix.specs.declared.operation.IntOp.{IntOp}
 use Rattle.symmetric_matrix.specs.Owed.{first_owed}
 use Rattle.symmetric_matrix.specs.Operations.{is_owed, mul_op, add_op}
 use Rattle.symmetric_matrix.proofs.Owed.{first_owed-append_none}
+use Rattle.symmetric_matrix.proofs.Narrow.{read_64_128}
+pub use Rattle.symmetric_matrix.proofs.Narrow.{read_64, read_128}
 use Rattle.unimodular_cone.specs.Cones.{Matrix, Generators}
 use Rattle.certificate_checker.specs.Loops.{steps}
 use Rattle.certificate_checker.specs.Dots.{dot, dot_ops, rows_times, times_ops}
@@ -69,12 +72,15 @@ dot_none p n x y few limit h = ap (first_owed is_owed) (dot_ops_are n x y) ∙ a
 products : (a b p n : ℕ) (x y : ℕ → ℤ) → a * b ≤ p → AreSmall n a x → AreSmall n b y → (k : ℕ) → k < n → nat_abs (x k *ℤ y k) ≤ p
 products a b p n x y e h m k l = let r = abs_product (x k) (y k) a b (h k l) (m k l) in omega (arith, e, r)
 
-times_none : (n : ℕ) (rows : ℕ → ℕ → ℤ) (x : ℕ → ℤ) → n ≤ 8 → AreSmallBelow n (2 ^ 40) rows → AreSmall n (2 ^ 62) x → first_owed is_owed (times_ops n rows x) ≡ None
+times_none : (n : ℕ) (rows : ℕ → ℕ → ℤ) (x : ℕ → ℤ) → n ≤ 8 → AreSmallBelow n (2 ^ 40) rows → AreSmall n (2 ^ 62) x
+    → first_owed is_owed (times_ops n rows x) ≡ None
 times_none n rows x few h m = ap (first_owed is_owed) (times_ops_are n rows x)
-    ∙ all_none (times_step n rows x) n (λ i l. dot_none (2 ^ 102) n (rows i) x few (omega arith) (products (2 ^ 40) (2 ^ 62) (2 ^ 102) n (rows i) x (omega arith) (h i l) m))
+    ∙ all_none (times_step n rows x) n
+    (λ i l. dot_none (2 ^ 102) n (rows i) x few (omega arith) (products (2 ^ 40) (2 ^ 62) (2 ^ 102) n (rows i) x (omega arith) (h i l) m))
 
 -- the sums of the products with numbers up to 2^19
-pub times_small : (n : ℕ) (rows : ℕ → ℕ → ℤ) (x : ℕ → ℤ) → n ≤ 8 → AreSmallBelow n (2 ^ 40) rows → AreSmall n (2 ^ 19) x → AreSmall n (2 ^ 62) (rows_times n rows x)
+pub times_small : (n : ℕ) (rows : ℕ → ℕ → ℤ) (x : ℕ → ℤ) → n ≤ 8 → AreSmallBelow n (2 ^ 40) rows → AreSmall n (2 ^ 19) x
+    → AreSmall n (2 ^ 62) (rows_times n rows x)
 times_small n rows x few h m i l =
     let b = dot_bound (2 ^ 59) n (rows i) x (products (2 ^ 40) (2 ^ 19) (2 ^ 59) n (rows i) x (omega arith) (h i l) m) in
     omega (arith, few, b)
@@ -82,14 +88,16 @@ times_small n rows x few h m i l =
 pub smaller : (n a b : ℕ) (x : ℕ → ℤ) → a ≤ b → AreSmall n a x → AreSmall n b x
 smaller n a b x e h k l = let r = h k l in omega (arith, e, r)
 
-column_none : (n : ℕ) (w : Matrix) (v : Generators) (b : ℕ → ℤ) → n ≤ 8 → AreSmallBelow n (2 ^ 40) w → AreSmallBelow n (2 ^ 19) v → AreSmall n (2 ^ 19) b → first_owed is_owed (column_ops n w v b) ≡ None
+column_none : (n : ℕ) (w : Matrix) (v : Generators) (b : ℕ → ℤ) → n ≤ 8 → AreSmallBelow n (2 ^ 40) w → AreSmallBelow n (2 ^ 19) v → AreSmall n (2 ^ 19) b
+    → first_owed is_owed (column_ops n w v b) ≡ None
 unfolding column_ops
 column_none n w v b few h m g =
     first_owed-append_none is_owed (times_ops n w b) (times_ops n v (rows_times n w b)) (times_none n w b few h (smaller n (2 ^ 19) (2 ^ 62) b (omega arith) g))
     ∙ times_none n v (rows_times n w b) few (λ i l. smaller n (2 ^ 19) (2 ^ 40) (v i) (omega arith) (m i l)) (times_small n w b few h g)
 
 -- no operation of the Gram matrix is owed
-pub columns_none : (n : ℕ) (w : Matrix) (v : Generators) → n ≤ 8 → AreSmallBelow n (2 ^ 40) w → AreSmallBelow n (2 ^ 19) v → first_owed is_owed (steps (generator_ops n w v) n) ≡ None
+pub columns_none : (n : ℕ) (w : Matrix) (v : Generators) → n ≤ 8 → AreSmallBelow n (2 ^ 40) w → AreSmallBelow n (2 ^ 19) v
+    → first_owed is_owed (steps (generator_ops n w v) n) ≡ None
 columns_none n w v few h m = all_none (generator_ops n w v) n (λ k l. column_none n w v (v k) few h m (m k l))
 
 -- the sum after one more product
@@ -128,12 +136,6 @@ pub small_same : (n limit : ℕ) (x y : ℕ → ℤ) → ((k : ℕ) → k < n �
 small_same n limit x y same h k l = rw (same k l) (h k l)
 
 -- ---- numbers as the program reads them back
-pub read_64 : (z : ℤ) → nat_abs z < 2 ^ 63 → to_z w64 (of_z w64 z) ≡ z
-read_64 z h = to_z-of_z (fits_signed_from_abs w64 z h)
-
-pub read_128 : (z : ℤ) → nat_abs z < 2 ^ 127 → to_z w128 (of_z w128 z) ≡ z
-read_128 z h = to_z-of_z (fits_signed_from_abs w128 z h)
-
 pub product_read_64 : (n k : ℕ) (x y : ℕ → ℤ) → k < n → AreSmall n (2 ^ 40) x → AreSmall n (2 ^ 19) y
     → to_z w64 (of_z w64 (to_z w64 (of_z w64 (x k)) *ℤ to_z w64 (of_z w64 (y k)))) ≡ x k *ℤ y k
 product_read_64 n k x y l h m =
@@ -147,8 +149,5 @@ pub product_read_128 : (n k : ℕ) (x y : ℕ → ℤ) → k < n → AreSmall n 
 product_read_128 n k x y l h m =
     let a = h k l in
     let b = m k l in
-    ap₂ (λ (u : ℤ) (v : ℤ). to_z w128 (of_z w128 (u *ℤ v))) (both (x k) (omega (arith, a))) (both (y k) (omega (arith, b)))
+    ap₂ (λ (u : ℤ) (v : ℤ). to_z w128 (of_z w128 (u *ℤ v))) (read_64_128 (x k) (omega (arith, a))) (read_64_128 (y k) (omega (arith, b)))
     ∙ read_128 (x k *ℤ y k) (product_in_128 n k x y l h m)
-  where
-    both : (z : ℤ) → nat_abs z < 2 ^ 63 → to_z w128 (of_z w128 (to_z w64 (of_z w64 z))) ≡ z
-    both z h = ap (λ (u : ℤ). to_z w128 (of_z w128 u)) (read_64 z h) ∙ read_128 z (omega (arith, h))

@@ -28,42 +28,50 @@ module _ (w : Symmetric) (value : Rational) (a : RationalMatrix) where
   unfolding value_checks
   value_wide op h = made_then_refused (pair_ops w a) _ op h
 
-  pub value_not_negative : (s : Rational) → first_owed is_owed (pair_ops w a) ≡ None → s ≡ inner_ℚ a.size (entry w) (rational_entry a) → is_below_zero s ≡ false → first_refusal (value_checks w value a) ≡ Some NotNegative
+  pub value_not_negative : (s : Rational) → first_owed is_owed (pair_ops w a) ≡ None → s ≡ inner_ℚ a.size (entry w) (rational_entry a) → is_below_zero s ≡ false
+      → first_refusal (value_checks w value a) ≡ Some NotNegative
   unfolding value_checks
   value_not_negative s fits e h = made_then (pair_ops w a) _ fits ∙ test_fails NotNegative _ _ (ap is_below_zero (sym e) ∙ h)
 
-  pub value_differs : (s : Rational) → first_owed is_owed (pair_ops w a) ≡ None → s ≡ inner_ℚ a.size (entry w) (rational_entry a) → is_below_zero s ≡ true → same_number s value ≡ false → first_refusal (value_checks w value a) ≡ Some ValueDiffers
+  pub value_differs : (s : Rational) → first_owed is_owed (pair_ops w a) ≡ None → s ≡ inner_ℚ a.size (entry w) (rational_entry a) → is_below_zero s ≡ true
+      → same_number s value ≡ false → first_refusal (value_checks w value a) ≡ Some ValueDiffers
   unfolding value_checks
   value_differs s fits e h d =
       made_then (pair_ops w a) _ fits ∙ test_passes NotNegative _ _ (ap is_below_zero (sym e) ∙ h)
       ∙ test_fails ValueDiffers _ [] (ap (λ (x : Rational). same_number x value) (sym e) ∙ d)
 
-  pub value_passes : (s : Rational) → first_owed is_owed (pair_ops w a) ≡ None → s ≡ inner_ℚ a.size (entry w) (rational_entry a) → is_below_zero s ≡ true → same_number s value ≡ true → first_refusal (value_checks w value a) ≡ None
+  pub value_passes : (s : Rational) → first_owed is_owed (pair_ops w a) ≡ None → s ≡ inner_ℚ a.size (entry w) (rational_entry a) → is_below_zero s ≡ true
+      → same_number s value ≡ true → first_refusal (value_checks w value a) ≡ None
   unfolding value_checks
   value_passes s fits e h d =
       made_then (pair_ops w a) _ fits
-      ∙ test_passes NotNegative (is_below_zero (inner_ℚ a.size (entry w) (rational_entry a))) (test ValueDiffers (same_number (inner_ℚ a.size (entry w) (rational_entry a)) value) ∷ []) (ap is_below_zero (sym e) ∙ h)
+      ∙ test_passes NotNegative (is_below_zero (inner_ℚ a.size (entry w) (rational_entry a)))
+      (test ValueDiffers (same_number (inner_ℚ a.size (entry w) (rational_entry a)) value) ∷ []) (ap is_below_zero (sym e) ∙ h)
       ∙ test_passes ValueDiffers _ [] (ap (λ (x : Rational). same_number x value) (sym e) ∙ d) ∙ nothing_refused
 
 pub factors_other_size : (a : RationalMatrix) (n : ℕ) (terms : List WeightedVector) → n ≢ a.size → first_refusal (factors_checks a n terms) ≡ Some Dimension
 unfolding factors_checks
 factors_other_size a n terms ne = let t : nat_eq n a.size ≡ false = grind arith in test_fails Dimension _ _ t
 
-pub factors_of_size : (a : RationalMatrix) (n : ℕ) (terms : List WeightedVector) → n ≡ a.size → first_refusal (factors_checks a n terms) ≡ first_refusal (factor_checks a terms)
+pub factors_of_size : (a : RationalMatrix) (n : ℕ) (terms : List WeightedVector) → n ≡ a.size
+    → first_refusal (factors_checks a n terms) ≡ first_refusal (factor_checks a terms)
 unfolding factors_checks
 factors_of_size a n terms e = let t : nat_eq n a.size ≡ true = grind arith in test_passes Dimension _ _ t
 
-pub separator_other_size : (a : RationalMatrix) (w : Symmetric) (value : Rational) (tree : Lines) → w.size ≢ a.size → first_refusal (separator_checks a w value tree) ≡ Some Dimension
+pub separator_other_size : (a : RationalMatrix) (w : Symmetric) (value : Rational) (tree : Lines) → w.size ≢ a.size
+    → first_refusal (separator_checks a w value tree) ≡ Some Dimension
 unfolding separator_checks
 separator_other_size a w value tree ne = let t : nat_eq w.size a.size ≡ false = grind arith in test_fails Dimension _ _ t
 
-pub separator_value : (a : RationalMatrix) (w : Symmetric) (value : Rational) (tree : Lines) (r : Checked) → w.size ≡ a.size → first_refusal (value_checks w value a) ≡ Some r → first_refusal (separator_checks a w value tree) ≡ Some r
+pub separator_value : (a : RationalMatrix) (w : Symmetric) (value : Rational) (tree : Lines) (r : Checked) → w.size ≡ a.size
+    → first_refusal (value_checks w value a) ≡ Some r → first_refusal (separator_checks a w value tree) ≡ Some r
 unfolding separator_checks
 separator_value a w value tree r e h =
     let t : nat_eq w.size a.size ≡ true = grind arith in
     test_passes Dimension _ _ t ∙ refusal-append_some (value_checks w value a) (tree_checks w.size (entry w) tree) r h
 
-pub separator_tree : (a : RationalMatrix) (w : Symmetric) (value : Rational) (tree : Lines) → w.size ≡ a.size → first_refusal (value_checks w value a) ≡ None → first_refusal (separator_checks a w value tree) ≡ first_refusal (tree_checks w.size (entry w) tree)
+pub separator_tree : (a : RationalMatrix) (w : Symmetric) (value : Rational) (tree : Lines) → w.size ≡ a.size → first_refusal (value_checks w value a) ≡ None
+    → first_refusal (separator_checks a w value tree) ≡ first_refusal (tree_checks w.size (entry w) tree)
 unfolding separator_checks
 separator_tree a w value tree e h =
     let t : nat_eq w.size a.size ≡ true = grind arith in

@@ -37,7 +37,9 @@ abbrev pub sum_before : Symmetric → RationalMatrix → ℕ → ℕ → Rationa
 sum_before w a i j = sum_ℚ i (λ k. sum_ℚ (k + 1) (pair_at w a k)) +ℚ sum_ℚ j (pair_at w a i)
 
 abbrev pub pair_step_from : Rational → Symmetric → RationalMatrix → ℕ → ℕ → List IntOp
-pair_step_from s w a i j = mul_op (often i j) (entry w i j) ∷ (mul_ops (rational_entry a i j) (whole (multiple_entry w i j)) ++ add_ops s (pair_at w a i j))
+pair_step_from s w a i j =
+    mul_op (often i j) (entry w i j)
+    ∷ (mul_ops (rational_entry a i j) (whole (multiple_entry w i j)) ++ add_ops s (pair_at w a i j))
 
 abbrev pub pair_step : Symmetric → RationalMatrix → ℕ → ℕ → List IntOp
 pair_step w a i j = pair_step_from (sum_before w a i j) w a i j

@@ -23,11 +23,14 @@ use Rattle.certificate_checker.specs.Verdicts.{checks, IsSeparation, IsRight}
 use Rattle.cone_tree_certificate.specs.VerdictText.{IsCheckable}
 
 abbrev pub AcceptedIsRight : Type 0
-AcceptedIsRight = (a : RationalMatrix) (verdict : Verdict) → IsCheckable verdict → first_refusal (checks a verdict) ≡ None → IsRight a verdict
+AcceptedIsRight = (a : RationalMatrix) (verdict : Verdict) → IsCheckable verdict
+    → first_refusal (checks a verdict) ≡ None → IsRight a verdict
 
 abbrev pub SeparationsExclude : Type 0
-SeparationsExclude = (a : RationalMatrix) (w : Symmetric) (value : Rational) (tree : Lines) → IsSeparation a w value tree
-    → IsCopositive a.size (entry w) × ((terms : List WeightedVector) → ¬ IsFactorization a.size (rational_entry a) terms)
+SeparationsExclude = (a : RationalMatrix) (w : Symmetric) (value : Rational) (tree : Lines)
+    → IsSeparation a w value tree
+    → IsCopositive a.size (entry w)
+    × ((terms : List WeightedVector) → ¬ IsFactorization a.size (rational_entry a) terms)
 
 abbrev pub IsOrdered : Verdict → Type 0
 IsOrdered (Factors n terms) = IsInOrder terms

@@ -40,7 +40,8 @@ node_checks n w count index (node ∷ due) (Leaf ∷ more) =
     leaf_checks n w node.generators index ++ node_checks n w count (index + 1) due more
 node_checks n w count index (node ∷ due) (Split i j ∷ more) =
     if nat_eq node.levels 0 then test (TreeShape index) false ∷ []
-    else (map made_check (mediant_ops n node.generators (i - 1) (j - 1)) ++ node_checks n w count (index + 1) (children node (i - 1) (j - 1) ++ due) more)
+    else (map made_check (mediant_ops n node.generators (i - 1) (j - 1))
+    ++ node_checks n w count (index + 1) (children node (i - 1) (j - 1) ++ due) more)
 
 unfoldable pub tree_checks : ℕ → Matrix → Lines → List Check
 tree_checks n w lines = node_checks n w (length lines) 1 (record { generators = unit_vectors; levels = 200 } ∷ []) lines

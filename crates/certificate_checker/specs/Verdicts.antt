@@ -23,7 +23,8 @@ unfoldable pub factors_checks : RationalMatrix → ℕ → List WeightedVector �
 factors_checks a n terms = test Dimension (nat_eq n a.size) ∷ factor_checks a terms
 
 unfoldable pub separator_checks : RationalMatrix → Symmetric → Rational → Lines → List Check
-separator_checks a w value tree = test Dimension (nat_eq w.size a.size) ∷ (value_checks w value a ++ tree_checks w.size (entry w) tree)
+separator_checks a w value tree =
+    test Dimension (nat_eq w.size a.size) ∷ (value_checks w value a ++ tree_checks w.size (entry w) tree)
 
 abbrev pub checks : RationalMatrix → Verdict → List Check
 checks a (Factors n terms) = factors_checks a n terms

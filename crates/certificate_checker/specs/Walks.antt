@@ -13,9 +13,12 @@ use Rattle.certificate_checker.specs.Tree.{Node, node_checks}
 
 abbrev pub GoesOn : ℕ → Matrix → Lines → ℕ → Node → List Node → Result ℕ Checked → Type 0
 GoesOn n w lines k node due (Ok next) =
-    first_refusal (node_checks n w (length lines) (k + 1) (node ∷ due) (drop k lines)) ≡ first_refusal (node_checks n w (length lines) (next + 1) due (drop next lines))
-GoesOn n w lines k node due (Err refusal) = first_refusal (node_checks n w (length lines) (k + 1) (node ∷ due) (drop k lines)) ≡ Some refusal
+    first_refusal (node_checks n w (length lines) (k + 1) (node ∷ due) (drop k lines))
+    ≡ first_refusal (node_checks n w (length lines) (next + 1) due (drop next lines))
+GoesOn n w lines k node due (Err refusal) =
+    first_refusal (node_checks n w (length lines) (k + 1) (node ∷ due) (drop k lines)) ≡ Some refusal
 
 abbrev pub FollowsAll : ℕ → Matrix → Lines → ℕ → ℕ → Generators → Result ℕ Checked → Type 0
 FollowsAll n w lines k levels v result =
-    (q : Matrix) (g : Generators) (due : List Node) → AgreeBelow n w q → AgreeBelow n v g → GoesOn n q lines k (record { generators = g; levels = levels }) due result
+    (q : Matrix) (g : Generators) (due : List Node) → AgreeBelow n w q → AgreeBelow n v g
+    → GoesOn n q lines k (record { generators = g; levels = levels }) due result

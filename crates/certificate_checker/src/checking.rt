@@ -37,7 +37,8 @@ fn check_separator(
 ) -> Result<(), Checked>
     requires { All (HasSplit w.now.size) tree.now }
     ensures passes { OnOk result (first_refusal (separator_checks a.now w.now value tree.now) ≡ None) }
-    ensures refused { IfErr result (λ refusal. first_refusal (separator_checks a.now w.now value tree.now) ≡ Some refusal) }
+    ensures refused { IfErr result (λ refusal. first_refusal (separator_checks a.now w.now value tree.now)
+        ≡ Some refusal) }
 {
     if w.n() != a.n() {
         return Err(Checked::Dimension);

@@ -36,8 +36,10 @@ fn gram_column(
 ) -> Result<[i128; 8], IntOp>
     requires { n ≤ 8 }
     ensures fits { OnOk result (first_owed is_owed (column_ops n (at w.now) (at v.now) (numbers b.now)) ≡ None) }
-    ensures value { IfOk result (λ column. AreFirst n column (rows_times n (at v.now) (rows_times n (at w.now) (numbers b.now)))) }
-    ensures wide { IfErr result (λ op. first_owed is_owed (column_ops n (at w.now) (at v.now) (numbers b.now)) ≡ Some op) }
+    ensures value { IfOk result
+        (λ column. AreFirst n column (rows_times n (at v.now) (rows_times n (at w.now) (numbers b.now)))) }
+    ensures wide { IfErr result (λ op. first_owed is_owed (column_ops n (at w.now) (at v.now) (numbers b.now))
+        ≡ Some op) }
 {
     let image = times(n, w, b)?;
     times(n, v, &image)
@@ -52,7 +54,9 @@ pub fn lesser_of_zero(z: i128) -> i128
 
 /// What is left of a slack after one more Gram entry, its own one left out.
 fn lessened(left: i128, own: bool, beside: i128) -> Result<i128, IntOp>
-    ensures { result ≡ answer is_owed (cond own [] (add_op left (neg_ℤ (shortfall beside)) ∷ [])) (left -ℤ cond own (pos 0) (shortfall beside)) }
+    ensures { result
+        ≡ answer is_owed (cond own [] (add_op left (neg_ℤ (shortfall beside)) ∷ []))
+        (left -ℤ cond own (pos 0) (shortfall beside)) }
 {
     if own {
         Ok(left)

@@ -20,7 +20,8 @@ use symmetric_matrix::{IntOp, int_add};
 fn check_leaf(n: usize, w: &[[i128; 8]; 8], v: &[[i128; 8]; 8], index: u64) -> Result<(), Checked>
     requires { n ≤ 8 }
     ensures passes { OnOk result (first_refusal (leaf_checks n (at w.now) (at v.now) index) ≡ None) }
-    ensures refused { IfErr result (λ refusal. first_refusal (leaf_checks n (at w.now) (at v.now) index) ≡ Some refusal) }
+    ensures refused { IfErr result (λ refusal. first_refusal (leaf_checks n (at w.now) (at v.now) index)
+        ≡ Some refusal) }
 {
     match is_closed(n, w, v) {
         Ok(true) => Ok(()),

@@ -94,7 +94,10 @@ fn square(term: &Term, i: u8, j: u8) -> Fraction
 fn add_term(sum: Fraction, term: &Term, i: u8, j: u8) -> Result<Fraction, IntOp>
     requires first { i < length term.now.vector }
     requires second { j < length term.now.vector }
-    ensures { result ≡ answer is_owed (mul_ops term.now.weight (outer_entry term.now i j) ++ add_ops sum (term.now.weight *ℚ outer_entry term.now i j)) (sum +ℚ term.now.weight *ℚ outer_entry term.now i j) }
+    ensures { result
+        ≡ answer is_owed (mul_ops term.now.weight (outer_entry term.now i j)
+        ++ add_ops sum (term.now.weight *ℚ outer_entry term.now i j))
+        (sum +ℚ term.now.weight *ℚ outer_entry term.now i j) }
 {
     let product = term.weight.mul(square(term, i, j))?;
     sum.add(product)
@@ -107,7 +110,8 @@ fn sum_at(n: u8, terms: &TermLines, i: u8, j: u8) -> Result<Fraction, IntOp>
     requires column { j < n }
     ensures fits { OnOk result (first_owed is_owed (steps (weighted_step terms.now i j) (length terms.now)) ≡ None) }
     ensures value { IfOk result (λ sum. sum ≡ weighted_sum terms.now i j) }
-    ensures wide { IfErr result (λ op. first_owed is_owed (steps (weighted_step terms.now i j) (length terms.now)) ≡ Some op) }
+    ensures wide { IfErr result (λ op. first_owed is_owed (steps (weighted_step terms.now i j) (length terms.now))
+        ≡ Some op) }
 {
     let mut sum = Fraction::whole(0);
     for k in 0..terms.len() {
@@ -144,7 +148,8 @@ fn check_row(a: &RatMatrix, terms: &TermLines, i: u8) -> Result<(), Checked>
     requires sized { All (λ term. length term.vector ≡ a.now.size) terms.now }
     requires row { i < a.now.size }
     ensures passes { OnOk result (first_refusal (steps (sum_checks a.now terms.now i) (i + 1)) ≡ None) }
-    ensures refused { IfErr result (λ refusal. first_refusal (steps (sum_checks a.now terms.now i) (i + 1)) ≡ Some refusal) }
+    ensures refused { IfErr result (λ refusal. first_refusal (steps (sum_checks a.now terms.now i) (i + 1))
+        ≡ Some refusal) }
 {
     let _n = a.n();
     for j in 0..i + 1 {
@@ -157,7 +162,8 @@ fn check_row(a: &RatMatrix, terms: &TermLines, i: u8) -> Result<(), Checked>
 fn check_sums(a: &RatMatrix, terms: &TermLines) -> Result<(), Checked>
     requires { All (λ term. length term.vector ≡ a.now.size) terms.now }
     ensures passes { OnOk result (first_refusal (by_places a.now.size (sum_checks a.now terms.now)) ≡ None) }
-    ensures refused { IfErr result (λ refusal. first_refusal (by_places a.now.size (sum_checks a.now terms.now)) ≡ Some refusal) }
+    ensures refused { IfErr result (λ refusal. first_refusal (by_places a.now.size (sum_checks a.now terms.now))
+        ≡ Some refusal) }
 {
     let n = a.n();
     for i in 0..n {

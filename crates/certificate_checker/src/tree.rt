@@ -40,7 +40,8 @@ fn check_root(n: usize, w: &[[i128; 8]; 8], tree: &ConeTree) -> Result<usize, Ch
 pub fn check_tree(w: &SymInt, tree: &ConeTree) -> Result<(), Checked>
     requires { All (HasSplit w.now.size) tree.now }
     ensures passes { OnOk result (first_refusal (tree_checks w.now.size (entry w.now) tree.now) ≡ None) }
-    ensures refused { IfErr result (λ refusal. first_refusal (tree_checks w.now.size (entry w.now) tree.now) ≡ Some refusal) }
+    ensures refused { IfErr result (λ refusal. first_refusal (tree_checks w.now.size (entry w.now) tree.now)
+        ≡ Some refusal) }
 {
     let rows = rows_of(w);
     let n = w.n();

@@ -34,7 +34,7 @@ coprime-mul_right a b c eb ec = gcd_comm a (b * c) ∙ coprime-mul_left b c a (g
 part_dvd : (a g : ℕ) → g ∣ a → a / g ∣ a
 part_dvd a g h = subst (λ n. a / g ∣ n) (div-mul_cancel g h) (dvd-mul_right (a / g) g)
 
-parts_coprime : (a d : ℕ) → 0 < d → gcd_of (a / gcd_of a d) (d / gcd_of a d) ≡ 1
+pub parts_coprime : (a d : ℕ) → 0 < d → gcd_of (a / gcd_of a d) (d / gcd_of a d) ≡ 1
 parts_coprime a zero h = absurd (omega arith)
 parts_coprime a (suc d) h = parts_lowest a d
 
@@ -61,7 +61,8 @@ abs_cases x y = grind (arith, ints)
 dvd-abs : (e : ℕ) (x y : ℤ) → e ∣ nat_abs (x +ℤ y) → e ∣ nat_abs y → e ∣ nat_abs x
 dvd-abs e x y p q = by (abs_cases x y)
   where
-    by : ((nat_abs x ≡ nat_abs (x +ℤ y) + nat_abs y) ⊎ ((nat_abs x ≡ nat_abs y - nat_abs (x +ℤ y)) ⊎ (nat_abs x ≡ nat_abs (x +ℤ y) - nat_abs y))) → e ∣ nat_abs x
+    by : ((nat_abs x ≡ nat_abs (x +ℤ y) + nat_abs y) ⊎ ((nat_abs x ≡ nat_abs y - nat_abs (x +ℤ y)) ⊎ (nat_abs x ≡ nat_abs (x +ℤ y) - nat_abs y)))
+        → e ∣ nat_abs x
     by (inl h) = subst (λ n. e ∣ n) (sym h) (dvd-add e p q)
     by (inr (inl h)) = subst (λ n. e ∣ n) (sym h) (dvd-sub e q p)
     by (inr (inr h)) = subst (λ n. e ∣ n) (sym h) (dvd-sub e p q)
@@ -89,7 +90,8 @@ sum_lowest a c b d pb pd eab ecd =
     let x_abs : nat_abs x ≡ nat_abs a * d' = unsigned_abs-mul a (pos d') in
     let y_abs : nat_abs y ≡ nat_abs c * b' = unsigned_abs-mul c (pos b') in
     let x_b : gcd_of (nat_abs x) b' ≡ 1 =
-    ap (λ (n : ℕ). gcd_of n b') x_abs ∙ coprime-mul_left (nat_abs a) d' b' (coprime-dvd (nat_abs a) b (nat_abs a) b' eab (dvd_refl (nat_abs a)) b_b) (gcd_comm d' b' ∙ apart) in
+    ap (λ (n : ℕ). gcd_of n b') x_abs
+    ∙ coprime-mul_left (nat_abs a) d' b' (coprime-dvd (nat_abs a) b (nat_abs a) b' eab (dvd_refl (nat_abs a)) b_b) (gcd_comm d' b' ∙ apart) in
     let y_d : gcd_of (nat_abs y) d' ≡ 1 =
     ap (λ (n : ℕ). gcd_of n d') y_abs ∙ coprime-mul_left (nat_abs c) b' d' (coprime-dvd (nat_abs c) d (nat_abs c) d' ecd (dvd_refl (nat_abs c)) d_d) apart in
     let b_y : b' ∣ nat_abs y = subst (λ n. b' ∣ n) (sym y_abs) (dvd-mul_left b' (nat_abs c)) in

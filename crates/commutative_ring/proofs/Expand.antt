@@ -31,4 +31,21 @@ times_one x = omega (arith, ints)
 pub ruleset linear = (same_out, lt_out, le_out, same_in, below_in, at_most_in, sum_is_lem, neg_is, Apart-out)
 
 -- for `simp`: sums of sorted products
-pub ruleset expand = (one_mul_ℤ, times_one, zero_mul_ℤ, mul_zero_ℤ, two_times, times_two, three_times, times_three, neg_neg_ℤ, neg_mul_ℤ, mul_neg_ℤ, add_mul_ℤ, mul_add_ℤ, mul_assoc_ℤ, mul_left_comm_ℤ, *ℤ_comm)
+pub ruleset expand = (
+  one_mul_ℤ,
+  times_one,
+  zero_mul_ℤ,
+  mul_zero_ℤ,
+  two_times,
+  times_two,
+  three_times,
+  times_three,
+  neg_neg_ℤ,
+  neg_mul_ℤ,
+  mul_neg_ℤ,
+  add_mul_ℤ,
+  mul_add_ℤ,
+  mul_assoc_ℤ,
+  mul_left_comm_ℤ,
+  *ℤ_comm,
+)

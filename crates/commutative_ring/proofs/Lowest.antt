@@ -1,6 +1,6 @@
 -- What is left of a numerator and a denominator when their greatest common divisor is taken out.
 use Rattle.std.specs.Prelude.{◌≡◌, ℕ, zero, suc, ◌*◌, ◌/◌, ◌<◌, ℤ, pos, negsuc, neg_ℤ, nat_abs, T, ltb, eqb}
-use Rattle.std.proofs.Common.{arith, ◌∙◌, ap, refl, subst, lt→ltb}
+use Rattle.std.proofs.Common.{arith, ◌∙◌, ap, refl, subst, lt→ltb, ltb→lt}
 use Rattle.std.specs.Int.{IsGcd}
 use Rattle.std.proofs.lemmas.Nat.Gcd.{same_from_IsGcd}
 use native.Mathlib.Nat.{pos_of_dvd_of_pos, div-mul_cancel}
@@ -30,6 +30,14 @@ part_positive a d = lt→ltb 0 _ (some (suc d / gcd_of a (suc d)) (gcd_of a (suc
     some : (q g : ℕ) → q * g ≡ suc d → 0 < q
     some zero g e = absurd (omega arith)
     some (suc q) g e = omega arith
+
+pub part_above : (a d : ℕ) → 0 < d → 0 < d / gcd_of a d
+part_above a zero h = absurd (omega arith)
+part_above a (suc d) h = ltb→lt 0 (suc d / gcd_of a (suc d)) (part_positive a d)
+
+-- two parts by one number, crosswise
+pub cross_parts : (e d x y g : ℕ) → x * g ≡ e → y * g ≡ d → e * y ≡ d * x
+cross_parts e d x y g h k = rw (← h, ← k) (omega arith)
 
 is_one : (n g : ℕ) → 0 < g → n * g ≡ g → n ≡ 1
 is_one zero g p e = absurd (omega arith)

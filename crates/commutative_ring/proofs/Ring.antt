@@ -86,7 +86,8 @@ term_unless_zero (negsuc n) m p = term (negsuc n) m p
 
 abbrev pub add_term : ℤ → List ℕ → Poly → Poly
 add_term c m none = term_unless_zero c m none
-add_term c m (term d l p) = elim (mono_order m l) [ less ↦ term_unless_zero c m (term d l p) | same ↦ term_unless_zero (c +ℤ d) l p | more ↦ term d l (add_term c m p) ]
+add_term c m (term d l p) =
+    elim (mono_order m l) [ less ↦ term_unless_zero c m (term d l p) | same ↦ term_unless_zero (c +ℤ d) l p | more ↦ term d l (add_term c m p) ]
 
 abbrev pub poly_add : Poly → Poly → Poly
 poly_add none q = q
@@ -129,7 +130,8 @@ says_same (i ∷ m) (j ∷ l) = by_test (eqb i j) (λ t. eqb→eq i j t) (says_s
     unlike true = tt
     unlike false = tt
 
-    by_test : (b : Bool) → (T b → i ≡ j) → SaysSame (mono_order m l) m l → SaysSame (elim b [ true ↦ mono_order m l | false ↦ elim (leb i j) [ true ↦ less | false ↦ more ] ]) (i ∷ m) (j ∷ l)
+    by_test : (b : Bool) → (T b → i ≡ j) → SaysSame (mono_order m l) m l
+        → SaysSame (elim b [ true ↦ mono_order m l | false ↦ elim (leb i j) [ true ↦ less | false ↦ more ] ]) (i ∷ m) (j ∷ l)
     by_test true e h = lift (mono_order m l) (e tt) h
     by_test false e h = unlike (leb i j)
 
@@ -188,7 +190,8 @@ module _ {A : Type 0} (R : CommutativeRing A) where
       ∙ ap (λ w. R.mul (ρ i) w) (mono_mul-value ρ m l)
       ∙ sym (R.mul_assoc (ρ i) (mono_value ρ m) (mono_value ρ l))
 
-  term_unless_zero-value : (ρ : ℕ → A) (c : ℤ) (m : List ℕ) (p : Poly) → poly_value ρ (term_unless_zero c m p) ≡ R.add (R.mul (R.of_int c) (mono_value ρ m)) (poly_value ρ p)
+  term_unless_zero-value : (ρ : ℕ → A) (c : ℤ) (m : List ℕ) (p : Poly)
+      → poly_value ρ (term_unless_zero c m p) ≡ R.add (R.mul (R.of_int c) (mono_value ρ m)) (poly_value ρ p)
   term_unless_zero-value ρ (pos zero) m p = sym (ap (λ w. R.add w (poly_value ρ p)) (R.zero_mul (mono_value ρ m)) ∙ R.zero_add (poly_value ρ p))
   term_unless_zero-value ρ (pos (suc n)) m p = refl
   term_unless_zero-value ρ (negsuc n) m p = refl
@@ -222,19 +225,25 @@ module _ {A : Type 0} (R : CommutativeRing A) where
   regroup_four a b x y =
       R.mul_assoc a b (R.mul x y) ∙ ap (λ w. R.mul a w) (mul_left_comm b x y) ∙ sym (R.mul_assoc a x (R.mul b y))
 
-  add_multiple-value : (ρ : ℕ → A) (c : ℤ) (m : List ℕ) (p q : Poly) → poly_value ρ (add_multiple c m p q) ≡ R.add (R.mul (R.mul (R.of_int c) (mono_value ρ m)) (poly_value ρ p)) (poly_value ρ q)
+  add_multiple-value : (ρ : ℕ → A) (c : ℤ) (m : List ℕ) (p q : Poly)
+      → poly_value ρ (add_multiple c m p q) ≡ R.add (R.mul (R.mul (R.of_int c) (mono_value ρ m)) (poly_value ρ p)) (poly_value ρ q)
   add_multiple-value ρ c m none q =
       sym (ap (λ w. R.add w (poly_value ρ q)) (mul_zero (R.mul (R.of_int c) (mono_value ρ m))) ∙ R.zero_add (poly_value ρ q))
   add_multiple-value ρ c m (term d l p) q =
       add_term-value ρ (c *ℤ d) (mono_mul m l) (add_multiple c m p q)
-      ∙ join (R.of_int (c *ℤ d)) (mono_value ρ (mono_mul m l)) (poly_value ρ (add_multiple c m p q)) (R.of_int_mul c d) (mono_mul-value ρ m l) (add_multiple-value ρ c m p q)
+      ∙ join (R.of_int (c *ℤ d)) (mono_value ρ (mono_mul m l)) (poly_value ρ (add_multiple c m p q)) (R.of_int_mul c d) (mono_mul-value ρ m l)
+      (add_multiple-value ρ c m p q)
     where
-      join : (s u v : A) → s ≡ R.mul (R.of_int c) (R.of_int d) → u ≡ R.mul (mono_value ρ m) (mono_value ρ l) → v ≡ R.add (R.mul (R.mul (R.of_int c) (mono_value ρ m)) (poly_value ρ p)) (poly_value ρ q)
-          → R.add (R.mul s u) v ≡ R.add (R.mul (R.mul (R.of_int c) (mono_value ρ m)) (R.add (R.mul (R.of_int d) (mono_value ρ l)) (poly_value ρ p))) (poly_value ρ q)
+      join : (s u v : A) → s ≡ R.mul (R.of_int c) (R.of_int d) → u ≡ R.mul (mono_value ρ m) (mono_value ρ l)
+          → v ≡ R.add (R.mul (R.mul (R.of_int c) (mono_value ρ m)) (poly_value ρ p)) (poly_value ρ q)
+          → R.add (R.mul s u) v
+          ≡ R.add (R.mul (R.mul (R.of_int c) (mono_value ρ m)) (R.add (R.mul (R.of_int d) (mono_value ρ l)) (poly_value ρ p))) (poly_value ρ q)
       join s u v h e f =
           ap₂ R.add (ap₂ R.mul h e) f
-          ∙ ap (λ w. R.add w (R.add (R.mul (R.mul (R.of_int c) (mono_value ρ m)) (poly_value ρ p)) (poly_value ρ q))) (regroup_four (R.of_int c) (R.of_int d) (mono_value ρ m) (mono_value ρ l))
-          ∙ sym (R.add_assoc (R.mul (R.mul (R.of_int c) (mono_value ρ m)) (R.mul (R.of_int d) (mono_value ρ l))) (R.mul (R.mul (R.of_int c) (mono_value ρ m)) (poly_value ρ p)) (poly_value ρ q))
+          ∙ ap (λ w. R.add w (R.add (R.mul (R.mul (R.of_int c) (mono_value ρ m)) (poly_value ρ p)) (poly_value ρ q)))
+          (regroup_four (R.of_int c) (R.of_int d) (mono_value ρ m) (mono_value ρ l))
+          ∙ sym (R.add_assoc (R.mul (R.mul (R.of_int c) (mono_value ρ m)) (R.mul (R.of_int d) (mono_value ρ l)))
+          (R.mul (R.mul (R.of_int c) (mono_value ρ m)) (poly_value ρ p)) (poly_value ρ q))
           ∙ ap (λ w. R.add w (poly_value ρ q)) (sym (mul_add (R.mul (R.of_int c) (mono_value ρ m)) (R.mul (R.of_int d) (mono_value ρ l)) (poly_value ρ p)))
 
   poly_mul-value : (ρ : ℕ → A) (p q : Poly) → poly_value ρ (poly_mul p q) ≡ R.mul (poly_value ρ p) (poly_value ρ q)

@@ -3,6 +3,7 @@ use Rattle.std.specs.Prelude.{◌≡◌, ◌≢◌, ℕ, zero, suc, ◌+◌, ◌
 use Rattle.std.proofs.Common.{arith, sym, ◌∙◌, ap, ap₂, refl, inl, inr}
 use Rattle.commutative_ring.specs.SumOf.{sum_of}
 use Rattle.commutative_ring.proofs.Ring.{CommutativeRing, ring_in, num, ◌⊕◌, ◌⊗◌, v0, v1, v2, v3}
+use Rattle.commutative_ring.proofs.SmallCases.{last_or_before}
 
 module _ {A : Type 0} (R : CommutativeRing A) where
   abbrev pub total : ℕ → (ℕ → A) → A
@@ -57,9 +58,6 @@ module _ {A : Type 0} (R : CommutativeRing A) where
   total_but_one (suc n) f g i l h =
       by (last_or_before i n l) (λ b. total_but_one n f g i b (λ k m ne. h k (omega arith) ne))
     where
-      last_or_before : (i n : ℕ) → i < suc n → (i ≡ n) ⊎ (i < n)
-      last_or_before i n l = grind arith
-
       by : ((i ≡ n) ⊎ (i < n)) → (i < n → R.add (total n f) (g i) ≡ R.add (total n g) (f i)) → R.add (total (suc n) f) (g i) ≡ R.add (total (suc n) g) (f i)
       by (inl e) step =
           ap₂ (λ x y. R.add x y) (total-suc n f ∙ ap (λ k. R.add (total n f) (f k)) (sym e)) refl
@@ -104,7 +102,8 @@ module _ {A : Type 0} (R : CommutativeRing A) where
   total_product m n f g = total-mul (total n g) m f ∙ total_same m _ _ (λ i l. mul-total (f i) n g)
 
   -- ---- double sums
-  pub totals_same : (m n : ℕ) (f g : ℕ → ℕ → A) → ((i j : ℕ) → i < m → j < n → f i j ≡ g i j) → total m (λ i. total n (λ j. f i j)) ≡ total m (λ i. total n (λ j. g i j))
+  pub totals_same : (m n : ℕ) (f g : ℕ → ℕ → A) → ((i j : ℕ) → i < m → j < n → f i j ≡ g i j)
+      → total m (λ i. total n (λ j. f i j)) ≡ total m (λ i. total n (λ j. g i j))
   totals_same m n f g h = total_same m _ _ (λ i li. total_same n _ _ (λ j lj. h i j li lj))
 
   pub totals-add : (m n : ℕ) (f g : ℕ → ℕ → A)

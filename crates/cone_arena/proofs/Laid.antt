@@ -67,7 +67,8 @@ pub row_read : (slots : Places) (w k : ℕ) (d : ShownCone) → IsLaid slots w �
 row_read slots w k d h l = ap (λ (s : Places). get_or s k None) h.laid ∙ get_laid (somes slots) (empty (length slots - w)) k d (omega (arith, l, h.count))
 
 -- rows that are fewer than the places
-pub counted_below : (slots : Places) (w : ℕ) → IsLaid slots w → (room : ℕ) → length slots ≡ room → (seen : ShownRows) → record_of slots room ≡ seen → length seen.items < seen.room → w < length slots
+pub counted_below : (slots : Places) (w : ℕ) → IsLaid slots w → (room : ℕ) → length slots ≡ room → (seen : ShownRows) → record_of slots room ≡ seen
+    → length seen.items < seen.room → w < length slots
 counted_below slots w h room places seen e l =
     let count : length (somes slots) ≡ length seen.items = ap (λ (r : ShownRows). length r.items) e in
     let same : room ≡ seen.room = ap (λ (r : ShownRows). r.room) e in
@@ -84,7 +85,8 @@ set_past (x ∷ rows) m c = ap (λ (s : Places). Some x ∷ s) (set_past rows m 
 
 pub place_empty : (slots : Places) (w : ℕ) → IsLaid slots w → get_or slots w None ≡ None
 place_empty slots w h =
-    ap (λ (s : Places). get_or s w None) h.laid ∙ ap (λ (k : ℕ). get_or (laid_out (somes slots) (length slots - w)) k None) (sym h.count) ∙ get_past (somes slots) (length slots - w)
+    ap (λ (s : Places). get_or s w None) h.laid ∙ ap (λ (k : ℕ). get_or (laid_out (somes slots) (length slots - w)) k None) (sym h.count)
+    ∙ get_past (somes slots) (length slots - w)
 
 pub row_added : (slots : Places) (w : ℕ) (c : ShownCone) → IsLaid slots w → w < length slots
     → IsLaid (slice_set slots w (Some c)) (w + 1) × (somes (slice_set slots w (Some c)) ≡ somes slots ++ c ∷ [])
@@ -122,7 +124,8 @@ AreWritten slots w ws after = IsLaid after w × (somes after ≡ ws) × (length 
 rows_written : (slots : Places) (w : ℕ) (ws : List ShownCone) → IsLaid slots w → length ws ≡ w → AreWritten slots w ws (spliced slots 0 w ws)
 rows_written slots w ws h l =
     let same : 0 + w ≡ w = omega arith in
-    let is : spliced slots 0 w ws ≡ laid_out ws (length slots - w) = ap (λ (s : Places). map Some ws ++ s) (ap (λ (k : ℕ). drop k slots) same ∙ rest_is slots w h) in
+    let is : spliced slots 0 w ws ≡ laid_out ws (length slots - w) =
+    ap (λ (s : Places). map Some ws ++ s) (ap (λ (k : ℕ). drop k slots) same ∙ rest_is slots w h) in
     let f = formed (spliced slots 0 w ws) ws (length slots - w) is in
     let long : length (spliced slots 0 w ws) ≡ length ws + (length slots - w) = ap length is ∙ length_laid ws (length slots - w) in
     (subst (IsLaid (spliced slots 0 w ws)) l f.0, f.1, omega (arith, long, l, h.within))

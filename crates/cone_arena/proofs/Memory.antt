@@ -22,7 +22,30 @@ use Rattle.core.proofs.mem.Param.{El, R, elτ}
 use Rattle.std_alloc.proofs.RawLayout.{as_raw}
 use Rattle.std_alloc.proofs.RcSteps.{Good}
 use Rattle.circular_buffer.specs.Ownership.{slot, slots}
-pub use Rattle.circular_buffer.proofs.Memory.{sz, Place, word_had, word_made, mark, filled_within, slot_seen, value_in, value_out, tells, Besides, slot_out, slot_in, Around, run_out, run_in, to_cells, of_cells, to_room, of_room, three_val, three_of}
+pub use Rattle.circular_buffer.proofs.Memory.{
+  sz,
+  Place,
+  word_had,
+  word_made,
+  mark,
+  filled_within,
+  slot_seen,
+  value_in,
+  value_out,
+  tells,
+  Besides,
+  slot_out,
+  slot_in,
+  Around,
+  run_out,
+  run_in,
+  to_cells,
+  of_cells,
+  to_room,
+  of_room,
+  three_val,
+  three_of,
+}
 use Rattle.cone_arena.specs.contracts.cells.Cells as C-type
 use Rattle.cone_arena.specs.contracts.cells.Base as B-type
 
@@ -38,7 +61,8 @@ module _ (E : El) where
   Mark = Struct (shape (C-type.the_type (R E)))
 
 pub mark_made : (E : El) {M : Type 1} {𝓤 : Ura M} (𝓛 : Logic 𝓤) → ent 𝓤 (emp 𝓤) (sem 𝓛 ((Mark E).own_val (tt, tt) (mark ∷ [])))
-mark_made E 𝓛 = makes_shadow 𝓛 ((Mark E).own_val (tt, tt) (mark ∷ [])) (λ vss. (tt, ((λ uss. (tt, tt)), tt))) ((vstruct vnil ∷ [], tt), (refl, ((tt, (refl, tt)), tt)))
+mark_made E 𝓛 =
+    makes_shadow 𝓛 ((Mark E).own_val (tt, tt) (mark ∷ [])) (λ vss. (tt, ((λ uss. (tt, tt)), tt))) ((vstruct vnil ∷ [], tt), (refl, ((tt, (refl, tt)), tt)))
 
 module _ {M : Type 1} {𝓤 : Ura M} {𝓛 : Logic 𝓤} {K : Type 0} {Γ : List (Item 𝓤)} {G : Goal 𝓤 𝓛.H} where
   pub mark_had : K → (E : El) (vs : List Val) → (vs ≡ mark ∷ [] → Seq K 𝓛 Γ G) → Seq K 𝓛 (‵ ((Mark E).own_val (tt, tt) vs) ∷ Γ) G

@@ -1,5 +1,6 @@
 pub mod Arena
 pub mod Lends
+pub mod NarrowRows
 pub mod RowFields
 pub mod Rows
 pub mod ShownRows

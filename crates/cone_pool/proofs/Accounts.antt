@@ -1,9 +1,9 @@
 -- Lists of accounts: what a change of one does to a total.
-use Rattle.std.proofs.Common.{◌≡◌, ◌≢◌, ℕ, zero, suc, ◌+◌, ◌≤◌, List, [], ◌∷◌, ◌++◌, slice_set, refl, sym, ap, subst, ⊎_elim, arith}
+use Rattle.std.proofs.Common.{◌≡◌, ◌≢◌, ℕ, zero, suc, ◌+◌, ◌≤◌, List, [], ◌∷◌, ◌++◌, slice_set, refl, sym, ap, arith}
 use mathlib.Core.Option.{some, some-injective, some-ne-none}
 use lib.ListN.{get_elem?}
-use Rattle.crossbeam_deque.proofs.Lists.{at_set, at_snoc}
 use Rattle.cone_pool.specs.Deques.{Account, total_of_accounts}
+use Rattle.bound_word.proofs.Numbers.{suc_is_not_zero, zero_is_not_suc, suc_same}
 
 module _ (f : Account → ℕ) where
   pub total_set : (vs : List Account) (k : ℕ) (v w : Account) → get_elem? vs k ≡ some v
@@ -32,15 +32,6 @@ module _ (f : Account → ℕ) where
   none_elsewhere [] each = refl
   none_elsewhere (x ∷ xs) each = let h = none_elsewhere xs (λ j u there. each (suc j) u there) in let g = each 0 x refl in omega arith
 
-  zero_is_not_suc : (k : ℕ) → 0 ≢ suc k
-  zero_is_not_suc k e = omega arith
-
-  suc_is_not_zero : (k : ℕ) → suc k ≢ 0
-  suc_is_not_zero k e = omega arith
-
-  suc_same : (j k : ℕ) → suc j ≡ suc k → j ≡ k
-  suc_same j k e = omega arith
-
   -- no other counts
   pub total_alone : (vs : List Account) (k : ℕ) (v : Account) → get_elem? vs k ≡ some v
       → ((j : ℕ) (u : Account) → get_elem? vs j ≡ some u → j ≢ k → f u ≡ 0) → total_of_accounts f vs ≡ f v
@@ -53,17 +44,3 @@ module _ (f : Account → ℕ) where
       let g : f x ≡ 0 = others 0 x refl (zero_is_not_suc k) in
       let h : total_of_accounts f xs ≡ f v = total_alone xs k v at (λ j u there apart. others (suc j) u there (λ same. apart (suc_same j k same))) in
       omega arith
-
-abbrev pub Each : (Account → Type 0) → List Account → Type 0
-Each P vs = (k : ℕ) (v : Account) → get_elem? vs k ≡ some v → P v
-
-pub each_set : (P : Account → Type 0) (vs : List Account) (k : ℕ) (w : Account) → P w → Each P vs → Each P (slice_set vs k w)
-each_set P vs k w mine others j u at = ⊎_elim (λ (t : (j ≡ k) × (w ≡ u)). subst P t.1 mine) (λ (t : (j ≢ k) × (get_elem? vs j ≡ some u)). others j u t.1)
-    (at_set vs k j w u at)
-
-pub each_snoc : (P : Account → Type 0) (vs : List Account) (w : Account) → P w → Each P vs → Each P (vs ++ w ∷ [])
-each_snoc P vs w mine others j u at = ⊎_elim (λ (t : get_elem? vs j ≡ some u). others j u t) (λ (t : w ≡ u). subst P t mine) (at_snoc vs w u j at)
-
-pub each_one : (P : Account → Type 0) (w : Account) → P w → Each P (w ∷ [])
-each_one P w mine zero u at = subst P (some-injective w u at) mine
-each_one P w mine (suc k) u at = absurd (some-ne-none u (sym at))

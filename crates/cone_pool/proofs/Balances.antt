@@ -1,14 +1,18 @@
 -- Each step on a deque keeps the balance.
-use Rattle.std.proofs.Common.{◌≡◌, ◌≢◌, ℕ, ◌+◌, ◌≤◌, ◌⊎◌, cond, Bool, true, false, true≢false, List, [], ◌∷◌, ◌++◌, slice_set, refl, sym, ap, ◌∙◌, subst, ⊎_elim, inl, inr, arith}
+use Rattle.std.proofs.Common.{◌≡◌, ◌≢◌, ℕ, ◌+◌, ◌≤◌, ◌⊎◌, cond, true, false, true≢false, List, [], ◌∷◌, ◌++◌, slice_set, refl, sym, ap, ◌∙◌, subst, ⊎_elim}
+use Rattle.std.proofs.Common.{arith}
 use mathlib.Core.Option.{some}
 use lib.ListN.{get_elem?}
+use Rattle.commutative_ring.proofs.SmallCases.{true_or_false}
 use Rattle.crossbeam_deque.specs.Tasks.{Pushes, Takes, Pops, Finds, Forks, Merges}
 use Rattle.crossbeam_deque.proofs.Lists.{at_set}
 use Rattle.unimodular_cone.specs.Paths.{Path}
 use Rattle.search_core.specs.Machine.{times}
 use Rattle.search_core.proofs.Times.{times-append, times_none}
-use Rattle.cone_pool.specs.Deques.{Account, account, opening_account, another_account, away_account, account_with_one_more, joined_account, first_accounts, present_accounts, IsBalanced, PutsPaths, TakesPaths, TakesPathsWithin, TookAllThatItPut}
-use Rattle.cone_pool.proofs.Accounts.{total_set, total_snoc, total_two, total_alone, each_set, each_snoc, each_one}
+use Rattle.cone_pool.specs.Deques.{Account, account, opening_account, another_account, away_account, account_with_one_more, joined_account, first_accounts}
+use Rattle.cone_pool.specs.Deques.{present_accounts, IsBalanced, PutsPaths, TakesPaths, TakesPathsWithin, TookAllThatItPut}
+use Rattle.bound_word.proofs.Each.{each_set, each_snoc, each_one}
+use Rattle.cone_pool.proofs.Accounts.{total_set, total_snoc, total_two, total_alone}
 
 abbrev is_first : Account → ℕ
 is_first v = cond v.first 1 0
@@ -25,9 +29,9 @@ takes p v = times p v.taken
 pub begins : IsBalanced [] (opening_account ∷ [])
 begins = record {
   balanced = λ p. (let a = times_none p in omega arith);
-  gone = each_one (λ v. v.away ≡ true → v ≡ away_account) opening_account (λ e. absurd (true≢false (sym e)));
+  gone = each_one (λ (v : Account). v.away ≡ true → v ≡ away_account) opening_account (λ e. absurd (true≢false (sym e)));
   one_first = refl;
-  out = each_one (λ v. v.first ≡ true → v.out + 1 ≡ 1) opening_account (λ e. refl);
+  out = each_one (λ (v : Account). v.first ≡ true → v.out + 1 ≡ 1) opening_account (λ e. refl);
 }
 
 -- an account that changes only in what it put and took
@@ -42,9 +46,9 @@ changes items items' accounts k v put taken here at same h =
     let firsts_same : first_accounts vs ≡ first_accounts accounts = (let t = total_set is_first accounts k v w at in omega arith) in record {
       balanced = λ p. (let a = total_set (puts p) accounts k v w at in let b = total_set (takes p) accounts k v w at in let c = h.balanced p in
           let d = same p in omega arith);
-      gone = each_set (λ u. u.away ≡ true → u ≡ away_account) accounts k w (λ e. absurd (true≢false (sym e ∙ here))) h.gone;
+      gone = each_set (λ (u : Account). u.away ≡ true → u ≡ away_account) accounts k w (λ e. absurd (true≢false (sym e ∙ here))) h.gone;
       one_first = firsts_same ∙ h.one_first;
-      out = each_set (λ u. u.first ≡ true → u.out + 1 ≡ present_accounts vs) accounts k w (λ e. h.out k v at e ∙ sym heres)
+      out = each_set (λ (u : Account). u.first ≡ true → u.out + 1 ≡ present_accounts vs) accounts k w (λ e. h.out k v at e ∙ sym heres)
           (λ j u there e. h.out j u there e ∙ sym heres);
     }
 
@@ -66,11 +70,7 @@ gone_is_empty : (p : Path) (u : Account) → u ≡ away_account → (times p u.p
 gone_is_empty p u e = (ap (λ (v : Account). times p v.put) e ∙ times_none p, ap (λ (v : Account). times p v.taken) e ∙ times_none p)
 
 away_or_here : (u : Account) → (u.away ≡ true) ⊎ (u.away ≡ false)
-away_or_here u = by u.away
-  where
-    by : (b : Bool) → (b ≡ true) ⊎ (b ≡ false)
-    by true = inl refl
-    by false = inr refl
+away_or_here u = true_or_false u.away
 
 -- with no other pass in use, all other accounts are empty
 own_balance : (port : ℕ) (v : Account) (items : List Path) (accounts : List Account) → IsBalanced items accounts → get_elem? accounts port ≡ some v

@@ -1,5 +1,8 @@
 -- What lists keep under functions.
 use Rattle.std.proofs.Common.{◌≡◌, ℕ, zero, suc, ◌+◌, ◌<◌, List, [], ◌∷◌, length, map, slice_set, slice_index_or, refl, ap, ◌∙◌, arith}
+use Rattle.std.proofs.lemmas.List.{length-map}
+use Rattle.cone_pool.specs.Crews.{lot_of}
+use Rattle.cone_pool.specs.Parts.{Member}
 
 pub add_one : (k : ℕ) → suc k ≡ k + 1
 add_one k = omega arith
@@ -35,3 +38,16 @@ module _ {A B C : Type 0} (f : A → C) (g : B → C) where
   map_many [] (y ∷ ys) e = absurd (map_shorter y ys e)
   map_many (x ∷ xs) [] e = absurd (map_longer x xs e)
   map_many (x ∷ xs) (y ∷ ys) e = ap suc (map_many xs ys (map_tail x xs y ys e))
+
+-- ---- a member that was read at a place
+pub record IsMemberAt (ms : List Member) (k : ℕ) (there : Member) : Type 0 where
+  pub is : there ≡ slice_index_or ms k there
+  pub within : k < length ms
+  pub lots_within : k < length (map lot_of ms)
+  pub lot : there.lot ≡ slice_index_or (map lot_of ms) k there.lot
+
+pub member_at : (ms : List Member) (k : ℕ) (x : Member) → x ≡ slice_index_or ms k x → k < length ms → IsMemberAt ms k (slice_index_or ms k x)
+member_at ms k x is l =
+    let there : Member = slice_index_or ms k x in
+    let same : there ≡ slice_index_or ms k there = ap (λ (x : Member). slice_index_or ms k x) is in
+    record { is = same; within = l; lots_within = omega (arith, length-map ms lot_of); lot = map_at lot_of ms k there l same }

@@ -10,7 +10,8 @@ use Rattle.search_core.proofs.Times.{times_cons, times_none}
 use Rattle.unimodular_cone.specs.Shown.{ShownCone}
 use Rattle.bound_word.specs.Seats.{TableId, Seat}
 use Rattle.cone_pool.specs.Lots.{Token, IsEmptied, token_taken, deque_of}
-use Rattle.cone_pool.specs.Parts.{Member, given_to, times_handled, times_found, total_found, total_handled, AreCones, IsWorkerPart, IsMerged, IsReturned, HasGathered}
+use Rattle.cone_pool.specs.Parts.{Member, given_to, times_handled, times_found, total_found, total_handled, AreCones, IsWorkerPart, IsMerged, IsReturned}
+use Rattle.cone_pool.specs.Parts.{HasGathered}
 use Rattle.cone_pool.proofs.SeatJudgements.{both_judged}
 
 total_found-snoc : (p : Path) (ws : List Member) (w : Member) → total_found p (ws ++ w ∷ []) ≡ total_found p ws + times_found p w

@@ -12,14 +12,13 @@ use Rattle.search_core.specs.declared.Judged.{Judged}
 use Rattle.search_core.specs.Fair.{code, word_of, least_value, IsFate, IsJudgement}
 use Rattle.search_core.specs.Judging.{shown_code, IsJudgementOf}
 use Rattle.search_core.specs.Machine.{children_of, times, paths, below_splits}
-use Rattle.search_core.proofs.Times.{times-append, times_none}
+use Rattle.search_core.proofs.Times.{times-append, times_none, times_below_append, times_paths_append}
 use Rattle.search_core.proofs.Kept.{IsOwn, own_word}
 use Rattle.search_core.proofs.ShownFates.{shown_code_at, shown_least_at, fate_at}
 use Rattle.bound_word.specs.Seats.{after_offer}
 use Rattle.cone_pool.specs.Turns.{IsTopAt}
 use Rattle.cone_pool.specs.Keeping.{Judgements, IsNoted}
 use Rattle.cone_pool.specs.Parts.{Member, AreCones, IsWorkerPart}
-use Rattle.cone_pool.proofs.Merging.{times_paths_append, times_below_append}
 use Rattle.cone_pool.proofs.SeatJudgements.{one_judged}
 use Rattle.cone_pool.proofs.Tops.{top_read}
 
@@ -59,7 +58,8 @@ judges m n q d path w c offered word j judged some part none at is below_code be
       counts = λ p.
           let a = part.counts p in
           let b : times p (paths judged.items) ≡ times p (paths (js ++ j ∷ [])) = ap (λ (l : List Judged). times p (paths l)) noted.items in
-          let e : times p (below_splits judged.items) ≡ times p (below_splits (js ++ j ∷ [])) = ap (λ (l : List Judged). times p (below_splits l)) noted.items in
+          let e : times p (below_splits judged.items) ≡ times p (below_splits (js ++ j ∷ [])) =
+          ap (λ (l : List Judged). times p (below_splits l)) noted.items in
           let f : times p (j.path ∷ []) ≡ times p (path ∷ []) = ap (λ (r : Path). times p (r ∷ [])) j_path in
           let g : times p (children_of j.path j.fate) ≡ times p (children_of path j.fate) = ap (λ (r : Path). times p (children_of r j.fate)) j_path in
           let k : times p (paths (j ∷ [])) ≡ times p (j.path ∷ []) = refl in

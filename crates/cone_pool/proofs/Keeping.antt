@@ -1,27 +1,16 @@
 -- What is kept of the judgements has all that an answer may look at.
-use Rattle.std.proofs.Common.{◌≡◌, true, ℕ, ◌≤◌, ℤ, ◌<ℤ◌, ◌⊎◌, List, [], ◌∷◌, ◌++◌, sym, ap, ap₂, ◌∙◌, subst, inl, inr, arith}
+use Rattle.std.proofs.Common.{◌≡◌, true, ℕ, ◌≤◌, ℤ, ◌<ℤ◌, ◌⊎◌, List, [], ◌∷◌, ◌++◌, sym, ap, ap₂, ◌∙◌, subst, inl, inr}
 use Rattle.std.specs.List.{Contains}
-use Rattle.std.proofs.lemmas.Int.{ints}
 use Rattle.std.proofs.lemmas.List.Elements.{Contains-push, Contains-append_left, Contains-append_right, Contains-append_cases, Contains-push_cases}
+use Rattle.exact_forms.proofs.Lists.{nothing_in}
+use Rattle.commutative_ring.proofs.SmallCases.{less_self_ℤ}
 use Rattle.unimodular_cone.specs.declared.Mode.{Mode}
 use Rattle.unimodular_cone.specs.declared.Mode.TheVariants.{Least}
 use Rattle.unimodular_cone.specs.Cones.{Matrix}
 use Rattle.search_core.specs.declared.Judged.{Judged}
 use Rattle.search_core.specs.Fair.{bound_under, IsLowFate, IsEndFate, IsIrrelevant, IsKeptOrIrrelevant, IsFair, IsFairPart}
+use Rattle.search_core.proofs.Irrelevant.{irrelevant_lower}
 use Rattle.cone_pool.specs.Keeping.{Judgements, AreNone, IsSameList, IsNoted, IsAppended, KeepsRelevant}
-
-pub nothing_in : {X : Type 0} (x : X) → Contains [] x → ⊥
-nothing_in x (k, l, e) = omega arith
-
-less_self : (z : ℤ) → z <ℤ z → ⊥
-less_self z l = omega (arith, ints)
-
--- under a lesser word no answer looks at it either
-irrelevant_lower : (m : Mode) (word lower : ℕ) (j : Judged) → lower ≤ word → IsIrrelevant m word j → IsIrrelevant m lower j
-irrelevant_lower m word lower j le u = record { not_low = u.not_low; no_end = u.no_end; above = λ mode large. by (u.above mode (omega arith)) large }
-  where
-    by : bound_under Least word <ℤ j.least → 256 ≤ lower → bound_under Least lower <ℤ j.least
-    by above large = omega (arith, ints)
 
 module _ (m : Mode) where
   pub none_kept : (word : ℕ) (js : Judgements) → AreNone js → KeepsRelevant m word js
@@ -61,7 +50,8 @@ module _ (m : Mode) where
       within k (inl c) = Contains-append_left old.items (j ∷ []) k (h.within k c)
       within k (inr e) = subst (Contains (old.items ++ j ∷ [])) e (Contains-push old.items j)
 
-      was : (k : Judged) → (Contains old.kept k ⊎ IsIrrelevant m told k) → (Contains old.kept k → Contains new.kept k) → Contains new.kept k ⊎ IsIrrelevant m word k
+      was : (k : Judged) → (Contains old.kept k ⊎ IsIrrelevant m told k) → (Contains old.kept k → Contains new.kept k)
+          → Contains new.kept k ⊎ IsIrrelevant m word k
       was k (inl c) on = inl (on c)
       was k (inr u) on = inr (irrelevant_lower m told word k low u)
 
@@ -132,4 +122,4 @@ module _ (m : Mode) where
           → Contains js.kept j
       by_least j mode large least (inl c) = c
       by_least j mode large least (inr u) = absurd
-          (less_self (bound_under Least final) (subst (λ (z : ℤ). bound_under Least final <ℤ z) least (u.above mode large)))
+          (less_self_ℤ (bound_under Least final) (subst (λ (z : ℤ). bound_under Least final <ℤ z) least (u.above mode large)))

@@ -3,9 +3,8 @@ use Rattle.std.proofs.Common.{◌≡◌, ◌+◌, List, [], ◌∷◌, ◌++◌,
 use Rattle.unimodular_cone.specs.Paths.{Path}
 use Rattle.search_core.specs.declared.Judged.{Judged}
 use Rattle.bound_word.specs.Seats.{Seat, joined_seat}
-use Rattle.search_core.specs.Machine.{children_of}
 use Rattle.search_core.specs.Machine.{times, paths, below_splits}
-use Rattle.search_core.proofs.Times.{times-append, times_cons, times_none}
+use Rattle.search_core.proofs.Times.{times-append, times_none, times_below_append, times_paths_append}
 use Rattle.cone_pool.specs.Lots.{Lot, IsPushed, IsPopped, IsEmptied, token_taken}
 use Rattle.cone_pool.specs.Keeping.{Judgements, IsAppended}
 use Rattle.cone_pool.specs.Parts.{Member, IsSafe, IsDrained, IsMerged}
@@ -77,15 +76,6 @@ unkept k s t l h none = record {
   tokens = h.tokens;
   few = omega arith;
 }
-
-pub times_paths_append : (p : Path) (a b : List Judged) → times p (paths (a ++ b)) ≡ times p (paths a) + times p (paths b)
-times_paths_append p [] b = (let z = times_none p in omega arith)
-times_paths_append p (j ∷ a) b = let h = times_paths_append p a b in omega (arith, times_cons p j.path (paths a), times_cons p j.path (paths (a ++ b)))
-
-pub times_below_append : (p : Path) (a b : List Judged) → times p (below_splits (a ++ b)) ≡ times p (below_splits a) + times p (below_splits b)
-times_below_append p [] b = (let z = times_none p in omega arith)
-times_below_append p (j ∷ a) b = let h = times_below_append p a b in
-    omega (arith, times-append p (children_of j.path j.fate) (below_splits a), times-append p (children_of j.path j.fate) (below_splits (a ++ b)))
 
 abbrev pub after_merge : Member → Lot → Seat → Judgements → Member
 after_merge w lot seat judged = record { number = w.number; lot = lot; seat = seat; judged = judged; kept = w.kept; cones = w.cones }

@@ -2,6 +2,7 @@
 use Rattle.std.proofs.Common.{◌≡◌, Bool, ℕ, suc, ◌+◌, ◌<◌, List, [], ◌∷◌, ◌++◌, length, map, take, slice_index_or, sym, ap, ◌∙◌, subst, arith}
 use Rattle.std.proofs.lemmas.List.{map-append}
 use Rattle.std.specs.Global.{Global}
+use Rattle.commutative_ring.proofs.SmallCases.{zero_plus}
 use Rattle.unimodular_cone.specs.Paths.{Path}
 use Rattle.crossbeam_deque.specs.declared.handles.Stealer.{Stealer}
 use Rattle.crossbeam_deque.specs.Handles.{stealer_deque}
@@ -26,10 +27,7 @@ thief_more lots k x old new t l is was on pushed =
     ∙ ap (λ (m : ℕ). map lot_deque (take m lots)) (add_one k)
 
 pub new_more : (t : TableId) (j : ℕ) (ws : List Member) (w : Member) → AreNewWorkers t j ws → IsNewWorker t (length ws + j) w → AreNewWorkers t j (ws ++ w ∷ [])
-new_more t j [] w h n = (subst (λ (k : ℕ). IsNewWorker t k w) (none j) n, tt {0})
-  where
-    none : (j : ℕ) → 0 + j ≡ j
-    none j = omega arith
+new_more t j [] w h n = (subst (λ (k : ℕ). IsNewWorker t k w) (zero_plus j) n, tt {0})
 new_more t j (x ∷ xs) w (a, h) n = (a, new_more t (suc j) xs w h (subst (λ (k : ℕ). IsNewWorker t k w) (shift (length xs) j) n))
   where
     shift : (a b : ℕ) → suc a + b ≡ a + suc b

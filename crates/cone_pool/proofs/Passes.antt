@@ -1,5 +1,6 @@
 -- Passes on all deques.
-use Rattle.std.proofs.Common.{◌≡◌, ℕ, zero, suc, ◌+◌, ◌<◌, ◌≤◌, List, [], ◌∷◌, ◌++◌, length, map, take, drop, slice_set, slice_index_or, refl, sym, ap, ap₂, ◌∙◌, subst, arith, length-append, take_all}
+use Rattle.std.proofs.Common.{◌≡◌, ℕ, zero, suc, ◌+◌, ◌<◌, ◌≤◌, List, [], ◌∷◌, ◌++◌, length, map, take, drop, slice_set, slice_index_or, refl, sym, ap, ap₂}
+use Rattle.std.proofs.Common.{◌∙◌, subst, arith, length-append, take_all}
 use Rattle.cone_pool.proofs.Crewing.{add_one, map_head, map_tail, map_longer, map_many}
 use Rattle.cone_pool.specs.Lots.{Token, Lot, lot_with_one_out, token_on, lot_deque, absorbed_lot, absorbed_all, deque_of}
 
@@ -88,13 +89,24 @@ back_next (t' ∷ ts) (s ∷ ss) (l ∷ left) t x e is there =
     ap (λ (ys : List Lot). s ∷ ys) (back_next ts ss left t x
     (map_tail deque_of lot_deque t' ts s ss e) (let g : l ∷ (left ++ t ∷ []) ≡ t' ∷ take (suc (length left)) ts = is in (cc)) there)
 
+longer : (rest left : List Token) (t : Token) → rest ≡ left ++ t ∷ [] → length rest ≡ suc (length left)
+longer rest left t split = ap length split ∙ length-append left (t ∷ []) ∙ omega arith
+
+-- the pass that is due, and the lots as they are then
+giving : (tokens rest left : List Token) (t : Token) (lots now : List Lot) → IsGivingBack tokens rest lots now → rest ≡ left ++ t ∷ []
+    → (left ++ t ∷ [] ≡ take (suc (length left)) tokens) × (now ≡ given_back (suc (length left)) tokens lots)
+giving tokens rest left t lots now h split =
+    let long = longer rest left t split in
+    (sym split ∙ h.rest_is ∙ ap (λ (k : ℕ). take k tokens) long, h.now_is ∙ ap (λ (k : ℕ). given_back k tokens lots) long)
+
 pub gives : (tokens rest left : List Token) (t : Token) (lots now : List Lot) (x y : Lot) → IsGivingBack tokens rest lots now → rest ≡ left ++ t ∷ []
     → x ≡ slice_index_or now (length left) x → y ≡ absorbed_lot t x
     → IsGivingBack tokens left lots (slice_set now (length left) y)
 gives tokens rest left t lots now x y h split there made =
-    let long : length rest ≡ suc (length left) = ap length split ∙ length-append left (t ∷ []) ∙ omega arith in
-    let first : left ++ t ∷ [] ≡ take (suc (length left)) tokens = sym split ∙ h.rest_is ∙ ap (λ (k : ℕ). take k tokens) long in
-    let is : now ≡ given_back (suc (length left)) tokens lots = h.now_is ∙ ap (λ (k : ℕ). given_back k tokens lots) long in record {
+    let long : length rest ≡ suc (length left) = longer rest left t split in
+    let now_is = giving tokens rest left t lots now h split in
+    let first = now_is.0 in
+    let is = now_is.1 in record {
       same = h.same;
       rest_is = shorter left t tokens first;
       few = (let a = h.few in omega arith);
@@ -114,9 +126,9 @@ gives tokens rest left t lots now x y h split there made =
 pub in_place : (tokens rest left : List Token) (t : Token) (lots now : List Lot) (x : Lot) → IsGivingBack tokens rest lots now → rest ≡ left ++ t ∷ []
     → x ≡ slice_index_or now (length left) x → (length left < length now) × (t.deque ≡ x.deque)
 in_place tokens rest left t lots now x h split there =
-    let long : length rest ≡ suc (length left) = ap length split ∙ length-append left (t ∷ []) ∙ omega arith in
-    let first : left ++ t ∷ [] ≡ take (suc (length left)) tokens = sym split ∙ h.rest_is ∙ ap (λ (k : ℕ). take k tokens) long in
-    let is : now ≡ given_back (suc (length left)) tokens lots = h.now_is ∙ ap (λ (k : ℕ). given_back k tokens lots) long in
+    let now_is = giving tokens rest left t lots now h split in
+    let first = now_is.0 in
+    let is = now_is.1 in
     let p = place tokens lots left t x h.same first (subst (λ (z : List Lot). x ≡ slice_index_or z (length left) x) is there) in
     (subst (λ (z : List Lot). length left < length z) (sym is) p.0, p.1)
   where

@@ -1,7 +1,9 @@
 -- Workers from their making to their return.
-use Rattle.std.proofs.Common.{◌≡◌, Bool, false, ℕ, zero, suc, ◌+◌, ◌<◌, ◌≤◌, ◌⊎◌, List, [], ◌∷◌, ◌++◌, length, map, take, drop, slice_index_or, refl, sym, ap, ap₂, ◌∙◌, subst, inl, inr, arith}
+use Rattle.std.proofs.Common.{◌≡◌, Bool, false, ℕ, zero, suc, ◌+◌, ◌<◌, ◌≤◌, ◌⊎◌, List, [], ◌∷◌, ◌++◌, length, map, take, drop, slice_index_or, refl, sym, ap}
+use Rattle.std.proofs.Common.{ap₂, ◌∙◌, subst, inl, inr, arith}
 use Rattle.std.specs.List.{Contains}
 use Rattle.exact_forms.proofs.Vectors.{contains_cons}
+use Rattle.exact_forms.proofs.Lists.{nothing_in}
 use Rattle.unimodular_cone.specs.declared.Mode.{Mode}
 use Rattle.unimodular_cone.specs.Shown.{ShownCone}
 use Rattle.unimodular_cone.specs.Paths.{Path}
@@ -12,10 +14,11 @@ use Rattle.search_core.proofs.Times.{times_none}
 use Rattle.bound_word.specs.Seats.{TableId, ShownTable, Seat, first_seat}
 use Rattle.cone_pool.specs.Lots.{Deque, Token, Lot, lot_deque, new_lot, token_taken, deque_of}
 use Rattle.cone_pool.specs.Keeping.{Judgements, AreNone}
-use Rattle.cone_pool.specs.Parts.{Member, given_to, AreJudgedAt, times_found, times_handled, total_found, total_handled, IsWorkerPart, IsWorkerReady, IsWorkerDone, IsReturned, HasGathered}
-use Rattle.cone_pool.specs.Crews.{MemberRest, LotCore, lot_of, rest_of_member, core_of_lot, seat_with_out, AreHanded, AreLent, total_taken, total_put, IsNewWorker, AreNewWorkers, AllKeep}
+use Rattle.cone_pool.specs.Parts.{Member, given_to, AreJudgedAt, times_found, times_handled, total_found, total_handled, IsWorkerPart, IsWorkerReady}
+use Rattle.cone_pool.specs.Parts.{IsWorkerDone, IsReturned, HasGathered}
+use Rattle.cone_pool.specs.Crews.{MemberRest, LotCore, lot_of, rest_of_member, core_of_lot, seat_with_out, AreHanded, AreLent, total_taken, total_put}
+use Rattle.cone_pool.specs.Crews.{IsNewWorker, AreNewWorkers, AllKeep}
 use Rattle.cone_pool.proofs.Crewing.{map_head, map_tail, map_shorter}
-use Rattle.cone_pool.proofs.Keeping.{nothing_in}
 use Rattle.cone_pool.proofs.SeatJudgements.{none_judged}
 
 -- the deques of two workers, and of the rest of each list, are the same without tokens

@@ -1,6 +1,7 @@
 -- A path that stands is in the tree.
-use Rattle.std.proofs.Common.{◌≡◌, ◌≢◌, ℕ, zero, suc, ◌+◌, ◌<◌, ◌≤◌, ◌⊎◌, Bool, Option, Some, None, List, [], ◌∷◌, ◌++◌, length, refl, sym, ap, ◌∙◌, subst, inl, inr, arith}
+use Rattle.std.proofs.Common.{◌≡◌, ◌≢◌, ℕ, zero, suc, ◌+◌, ◌<◌, ◌≤◌, ◌⊎◌, Bool, List, [], ◌∷◌, ◌++◌, length, refl, sym, ap, ◌∙◌, subst, inl, inr, arith}
 use Rattle.std.specs.List.{Contains}
+use Rattle.commutative_ring.proofs.SmallCases.{below_unless_same}
 use Rattle.unimodular_cone.specs.declared.Mode.{Mode}
 use Rattle.unimodular_cone.specs.Paths.{Path, IsAbove}
 use Rattle.unimodular_cone.specs.declared.ConeFail.{ConeFail}
@@ -9,6 +10,7 @@ use Rattle.unimodular_cone.specs.Shown.{IsReachable, IsWideWhere, IsFirstWideAt}
 use Rattle.unimodular_cone.specs.Cones.{Matrix, Fits, unit_vectors}
 use Rattle.unimodular_cone.specs.Tree.{IsInTree}
 use Rattle.unimodular_cone.proofs.Tree.{length_child, above_shorter, in_tree_root, in_tree_child, fits_in_tree}
+use Rattle.unimodular_cone.proofs.Ways.{not_none}
 use Rattle.search_core.specs.declared.Judged.{Judged}
 use Rattle.search_core.specs.Fair.{IsJudgement, IsSplit}
 use Rattle.search_core.specs.Machine.{times, paths, below_splits, due}
@@ -18,9 +20,6 @@ use Rattle.search_core.proofs.Settle.{split_can}
 use Rattle.search_core.proofs.ShownFates.{judged_fate}
 use Rattle.cone_pool.specs.Lots.{IsNoMoreThanPut, token_taken}
 use Rattle.cone_pool.specs.Parts.{Member, given_to, IsWorkerPart}
-
-lt_of_ne : (x y : ℕ) → x ≤ y → x ≢ y → x < y
-lt_of_ne x y h ne = omega arith
 
 module _ (m : Mode) (n : ℕ) (q : Matrix) (d told : ℕ) (judged : List Judged) (each : (j : Judged) → Contains judged j
     → IsJudgement m n q d told j) (only : (y : Path) → times y (paths judged) ≤ times y (due judged)) where
@@ -35,7 +34,7 @@ module _ (m : Mode) (n : ℕ) (q : Matrix) (d told : ℕ) (judged : List Judged)
           (let a = stands_judged judged j c in let b = only j.path in omega arith) in
           let can = split_can m n q d j.path j.fate (judged_fate m n q d told j (each j c)) split in
           let s : length j.path ≤ d = t.short in
-          subst (IsInTree n q d) (sym e) (in_tree_child n q d j.path side t (lt_of_ne (length j.path) d s can.1) can.0)
+          subst (IsInTree n q d) (sym e) (in_tree_child n q d j.path side t (below_unless_same (length j.path) d s can.1) can.0)
 
       at : ((y : Path) → length y < fuel → 1 ≤ times y (due judged) → IsInTree n q d y) → ((x ≡ []) ⊎ (x ≢ [])) → IsInTree n q d x
       at rec (inl e) = subst (IsInTree n q d) (sym e) (in_tree_root n q d)
@@ -76,9 +75,6 @@ tree_reachable n q d path root t = record {
   pair = λ a h none. (let can = t.above a h in not_none can.i can.j (sym can.pair ∙ none));
   fits = λ a h. fits_in_tree n q d root a (above_in_tree n q d a path t h);
 }
-  where
-    not_none : (i j : ℕ) → ◌≢◌ {A = Option (ℕ × ℕ)} (Some (i, j)) None
-    not_none i j e = (cc)
 
 pub tree_not_wide : (n : ℕ) (q : Matrix) (d : ℕ) (path : Path) (fail : ConeFail) → Fits n q unit_vectors → IsInTree n q d path
     → IsWideWhere (IsFirstWideAt n q path) fail → ⊥

@@ -2,6 +2,7 @@
 use Rattle.std.proofs.Common.{◌≡◌, ℕ, ◌≤◌, ◌⊎◌, min, List, [], ◌∷◌, ◌++◌, sym, ap, ◌∙◌, subst, inl, inr, arith, le_trans}
 use Rattle.std.specs.List.{Contains}
 use Rattle.std.proofs.lemmas.List.Elements.{Contains-push, Contains-append_left, Contains-append_right, Contains-append_cases, Contains-push_cases}
+use Rattle.exact_forms.proofs.Lists.{nothing_in}
 use Rattle.unimodular_cone.specs.declared.Mode.{Mode}
 use Rattle.unimodular_cone.specs.Cones.{Matrix}
 use Rattle.search_core.specs.declared.Judged.{Judged}
@@ -9,7 +10,7 @@ use Rattle.search_core.specs.Fair.{code, IsJudgement}
 use Rattle.bound_word.specs.Seats.{Seat, greatest_word, after_offer, joined_seat}
 use Rattle.cone_pool.specs.Keeping.{Judgements, AreNone, IsSameList, IsNoted, IsAppended}
 use Rattle.cone_pool.specs.Parts.{AreJudgedAt}
-use Rattle.cone_pool.proofs.Keeping.{nothing_in, none_kept, same_kept, one_kept, both_kept}
+use Rattle.cone_pool.proofs.Keeping.{none_kept, same_kept, one_kept, both_kept}
 
 pub lesser : (a b : ℕ) → (min a b ≡ a) ⊎ (min a b ≡ b)
 lesser a b = grind arith

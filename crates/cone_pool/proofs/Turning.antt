@@ -1,8 +1,11 @@
 -- The stack after a judgement, and the children that are put into the deque.
-use Rattle.std.proofs.Common.{◌≡◌, ◌≢◌, ℕ, ◌+◌, ◌-◌, ◌<◌, ◌≤◌, ◌⊎◌, true, false, Bool, List, [], ◌∷◌, length, refl, sym, ap, ◌∙◌, subst, inl, inr, arith, length-append}
+use Rattle.std.proofs.Common.{◌≡◌, ◌≢◌, ℕ, ◌+◌, ◌-◌, ◌<◌, ◌≤◌, ◌⊎◌, true, false, Bool, List, [], ◌∷◌, length, refl, sym, ap, ◌∙◌, subst, inl, inr, arith}
+use Rattle.std.proofs.Common.{length-append}
 use Rattle.std.specs.List.{Contains}
-use Rattle.std.proofs.lemmas.List.Elements.{Contains-push, Contains-append_left, Contains-append_cases}
+use Rattle.std.proofs.lemmas.List.Elements.{Contains-append_left, Contains-append_cases}
+use Rattle.commutative_ring.proofs.SmallCases.{below_unless_same}
 use Rattle.exact_forms.proofs.Vectors.{contains_cons}
+use Rattle.exact_forms.proofs.Lists.{top_in}
 use Rattle.unimodular_cone.specs.declared.Mode.{Mode}
 use Rattle.unimodular_cone.specs.Paths.{Path}
 use Rattle.unimodular_cone.specs.Cones.{Matrix}
@@ -14,15 +17,12 @@ use Rattle.search_core.specs.Judging.{IsShownFate}
 use Rattle.search_core.specs.Machine.{times}
 use Rattle.search_core.proofs.Times.{times_none}
 use Rattle.cone_pool.specs.Lots.{Lot, token_taken}
-use Rattle.cone_pool.specs.Turns.{IsOnTop, SplitsAt, TopSplits, AreStacked, IsTopTurned, IsTopAt}
+use Rattle.cone_pool.specs.Turns.{SplitsAt, TopSplits, AreStacked, IsTopTurned, IsTopAt}
 use Rattle.cone_pool.specs.Parts.{Member, AreCones, IsWorkerPart, IsSafe, IsFateOnTop}
-
-on_top : (cones rest : List ShownCone) (c : ShownCone) → IsOnTop c rest cones → Contains cones c
-on_top cones rest c is = subst (λ (s : List ShownCone). Contains s c) (sym is) (Contains-push rest c)
 
 pub top_splits : (m : Mode) (n : ℕ) (q : Matrix) (d : ℕ) (f : Fate) (cones : List ShownCone) → d ≤ 200 → AreCones n q d cones → IsFateOnTop m d f cones
     → TopSplits f cones
-top_splits m n q d f cones small each (word, fate) c rest is = by f (fate c rest is) (each c (on_top cones rest c is)).1
+top_splits m n q d f cones small each (word, fate) c rest is = by f (fate c rest is) (each c (top_in cones rest c is)).1
   where
     by : (f : Fate) → IsShownFate m c d word f → length c.path ≤ d → SplitsAt c f
     by (Split a b w) (e, u, ne, pair, fits) le = (pair, fits, less (length c.path) d le ne small)
@@ -44,7 +44,7 @@ turned_cones m n q d path f cones new each (word, fate) t turns k there =
     c = t.top
 
     here : IsConeAt n q c.path c × (length c.path ≤ d)
-    here = each c (on_top cones t.rest c t.is)
+    here = each c (top_in cones t.rest c t.is)
 
     old : (x : ShownCone) → Contains t.rest x → IsConeAt n q x.path x × (length x.path ≤ d)
     old x r = each x (subst (λ (s : List ShownCone). Contains s x) (sym t.is) (Contains-append_left t.rest (c ∷ []) x r))
@@ -54,10 +54,7 @@ turned_cones m n q d path f cones new each (word, fate) t turns k there =
         (subst (λ (x : List ShownCone). Contains x k) s.stack there))
       where
         short : length c.path < d
-        short = less (length c.path) d here.1 ne
-          where
-            less : (x y : ℕ) → x ≤ y → x ≢ y → x < y
-            less x y le ne = grind arith
+        short = below_unless_same (length c.path) d here.1 ne
 
         a_child : (side : Bool) (r : ShownCone) → IsChild c (a - 1) (b - 1) side r → IsConeAt n q r.path r × (length r.path ≤ d)
         a_child side r is = (

@@ -53,7 +53,8 @@ abbrev pub TopSplits : Fate → List ShownCone → Type 0
 TopSplits fate stack = (c : ShownCone) (rest : List ShownCone) → IsOnTop c rest stack → SplitsAt c fate
 
 abbrev pub IsTopSplit : List ShownCone → ℕ → ℕ → List ShownCone → Type 0
-IsTopSplit old i j new = (c : ShownCone) (rest : List ShownCone) → IsOnTop c rest old → AreChildrenOn c (i - 1) (j - 1) rest new
+IsTopSplit old i j new = (c : ShownCone) (rest : List ShownCone) → IsOnTop c rest old
+    → AreChildrenOn c (i - 1) (j - 1) rest new
 
 abbrev pub IsTopTurned : Fate → List ShownCone → List ShownCone → Type 0
 IsTopTurned fate old new = (c : ShownCone) (rest : List ShownCone) → IsOnTop c rest old → AreStacked c fate rest new

@@ -114,7 +114,8 @@ pub(crate) fn conclude(
     requires start { table.start ≡ start_word mode q.now.size (entry q.now) }
     requires small { table.start ≤ 2 ^ 64 - 1 }
     requires gathered { HasGathered mode q.now.size (entry q.now) limit table.id [] chief }
-    ensures part { IfOk result (λ pooled. IsFairPart mode q.now.size (entry q.now) limit pooled.judged.items pooled.final_word) }
+    ensures part { IfOk result
+        (λ pooled. IsFairPart mode q.now.size (entry q.now) limit pooled.judged.items pooled.final_word) }
     ensures whole { chief.judged.whole ≡ true → IfOk result
         (λ pooled. IsFair mode q.now.size (entry q.now) limit pooled.judged.items pooled.final_word) }
 {

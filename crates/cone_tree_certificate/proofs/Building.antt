@@ -2,16 +2,14 @@
 use Rattle.std.specs.Prelude.{◌≡◌, ℕ, suc, ◌-◌, ◌<◌, ◌≤◌, ◌⊎◌, pos, Bool, true, false, [], ◌∷◌, ◌++◌, length, Some, None}
 use Rattle.std.proofs.Common.{arith, sym, ◌∙◌, ap, refl, inl, inr, subst, append_assoc}
 use Rattle.std.proofs.lemmas.List.{append-nil}
+use Rattle.commutative_ring.proofs.SmallCases.{same_or_below}
 use Rattle.exact_forms.specs.Forms.{IsSymmetric}
 use Rattle.exact_forms.specs.Slacks.{IsClosed}
 use Rattle.unimodular_cone.specs.Paths.{Path, IsAbove}
 use Rattle.unimodular_cone.specs.Cones.{Matrix, Generators, gram, child, cone_at, pair_of, unit_vectors}
 use Rattle.unimodular_cone.specs.declared.Mode.TheVariants.{Sign}
 use Rattle.unimodular_cone.specs.Tree.{CanSplit, IsClosedAt, HasWideChild}
-use Rattle.unimodular_cone.specs.Cones.{IsPair, Fits, cone_from}
-use Rattle.unimodular_cone.specs.declared.refusal.ConeFail.{ConeFail}
-use Rattle.unimodular_cone.specs.declared.refusal.ConeFail.TheVariants.{Wide, OutOfMemory}
-use Rattle.unimodular_cone.specs.Shown.{IsWideWhere, IsFirstWideAt}
+use Rattle.unimodular_cone.specs.Cones.{IsPair, cone_from}
 use Rattle.unimodular_cone.specs.Shown.{ShownCone, shown_gram, IsConeAt, IsChild, IsFirstWideBelow}
 use Rattle.unimodular_cone.specs.declared.refusal.WideAt.{WideAt}
 use Rattle.unimodular_cone.proofs.ShownAt.{closed_there, child_at_path, wide_below_at}
@@ -29,17 +27,15 @@ root_way n w d = record { in_tree = in_tree_root n w d; above = λ c h. absurd (
 
 module _ (n : ℕ) (w : Matrix) (d : ℕ) (s : IsSymmetric n w) (a : IsClosedAnswer Sign n w d (pos 0)) (p : Path) (way : IsOnWayDown n w d p) where
   pub closed_if_no_pair : pair_of n (gram n w (cone_at n w p)) ≡ None → IsClosedAt n w p (pos 0)
-  closed_if_no_pair none = closed_without_pair n w (cone_at n w p) (pos 0) s none (bound_is_below Sign n w d (pos 0) a.is_bound p way.in_tree (a.clear.none_low p way.in_tree))
+  closed_if_no_pair none =
+      closed_without_pair n w (cone_at n w p) (pos 0) s none (bound_is_below Sign n w d (pos 0) a.is_bound p way.in_tree (a.clear.none_low p way.in_tree))
 
   ends : (¬ IsClosedAt n w p (pos 0)) → ((length p ≡ d) ⊎ HasWideChild n w p) → ⊥
   ends not_closed e = a.none_open p (record { in_tree = way.in_tree; ends = e; itself = not_closed; above = way.above })
 
   pub short_of : (¬ IsClosedAt n w p (pos 0)) → length p < d
-  short_of not_closed = by (split (length p) d way.in_tree.short)
+  short_of not_closed = by (same_or_below (length p) d way.in_tree.short)
     where
-      split : (x y : ℕ) → x ≤ y → (x ≡ y) ⊎ (x < y)
-      split x y h = grind arith
-
       by : (length p ≡ d) ⊎ (length p < d) → length p < d
       by (inl e) = absurd (ends not_closed (inl e))
       by (inr l) = l
@@ -54,7 +50,8 @@ module _ (n : ℕ) (w : Matrix) (d : ℕ) (s : IsSymmetric n w) (a : IsClosedAns
   pub not_wide_below : (¬ IsClosedAt n w p (pos 0)) → ¬ HasWideChild n w p
   not_wide_below not_closed wide = ends not_closed (inr wide)
 
-  pub child_way : (¬ IsClosedAt n w p (pos 0)) → (i j : ℕ) → pair_of n (gram n w (cone_at n w p)) ≡ Some (i, j) → (side : Bool) → IsOnWayDown n w d (p ++ side ∷ [])
+  pub child_way : (¬ IsClosedAt n w p (pos 0)) → (i j : ℕ) → pair_of n (gram n w (cone_at n w p)) ≡ Some (i, j) → (side : Bool)
+      → IsOnWayDown n w d (p ++ side ∷ [])
   child_way not_closed i j e side = record {
     in_tree = in_tree_child n w d p side way.in_tree (short_of not_closed) (can_split not_closed i j e);
     above = λ c h. at_above c (above_child c p side h);
@@ -64,7 +61,8 @@ module _ (n : ℕ) (w : Matrix) (d : ℕ) (s : IsSymmetric n w) (a : IsClosedAns
       at_above c (inl e) h = not_closed (subst (λ (r : Path). IsClosedAt n w r (pos 0)) e h)
       at_above c (inr k) h = way.above c k h
 
-pub leaf_added : (n : ℕ) (w : Matrix) (d : ℕ) (v : Generators) (old new : Lines) → IsClosed n (gram n w v) (pos 0) → new ≡ old ++ Leaf ∷ [] → AddsTree n w d v old new
+pub leaf_added : (n : ℕ) (w : Matrix) (d : ℕ) (v : Generators) (old new : Lines) → IsClosed n (gram n w v) (pos 0) → new ≡ old ++ Leaf ∷ []
+    → AddsTree n w d v old new
 leaf_added n w d v old new closed e = record { lines = Leaf ∷ []; added = e; reads = λ rest. (closed, refl) }
 
 pub split_added : (n : ℕ) (w : Matrix) (limit i j : ℕ) (p : Path) (old first second new : Lines) → length p < limit
@@ -75,17 +73,22 @@ pub split_added : (n : ℕ) (w : Matrix) (limit i j : ℕ) (p : Path) (old first
     → AddsTree n w (limit - length p) (cone_at n w p) old new
 split_added n w limit i j p old first second new short not_closed split e f zero one = record {
   lines = Split i j ∷ (zero.lines ++ one.lines);
-  added = one.added ∙ ap (λ (xs : Lines). xs ++ one.lines) (zero.added ∙ ap (λ (xs : Lines). xs ++ zero.lines) f) ∙ ap (λ (xs : Lines). xs ++ one.lines) (append_assoc old (Split i j ∷ []) zero.lines) ∙ append_assoc old (Split i j ∷ zero.lines) one.lines;
+  added = one.added ∙ ap (λ (xs : Lines). xs ++ one.lines) (zero.added ∙ ap (λ (xs : Lines). xs ++ zero.lines) f)
+      ∙ ap (λ (xs : Lines). xs ++ one.lines) (append_assoc old (Split i j ∷ []) zero.lines) ∙ append_assoc old (Split i j ∷ zero.lines) one.lines;
   reads = λ rest. reads rest;
 }
   where
     level : (side : Bool) → limit - length p ≡ suc (limit - length (p ++ side ∷ []))
     level side = let l = length_child p side in omega (arith, l, short)
 
-    below : (side : Bool) (v : Generators) (xs rest : Lines) → cone_at n w (p ++ side ∷ []) ≡ v → ReadsPairTree n w (limit - length (p ++ side ∷ [])) (cone_at n w (p ++ side ∷ [])) xs rest → ReadsPairTree n w (limit - length (p ++ false ∷ [])) v xs rest
+    below : (side : Bool) (v : Generators) (xs rest : Lines) → cone_at n w (p ++ side ∷ []) ≡ v
+        → ReadsPairTree n w (limit - length (p ++ side ∷ [])) (cone_at n w (p ++ side ∷ [])) xs rest
+        → ReadsPairTree n w (limit - length (p ++ false ∷ [])) v xs rest
     below side v xs rest e h =
-        let same : limit - length (p ++ side ∷ []) ≡ limit - length (p ++ false ∷ []) = (let k = length_child p side in let l = length_child p false in omega (arith, k, l)) in
-        subst (λ (u : Generators). ReadsPairTree n w (limit - length (p ++ false ∷ [])) u xs rest) e (subst (λ (m : ℕ). ReadsPairTree n w m (cone_at n w (p ++ side ∷ [])) xs rest) same h)
+        let same : limit - length (p ++ side ∷ []) ≡ limit - length (p ++ false ∷ []) =
+        (let k = length_child p side in let l = length_child p false in omega (arith, k, l)) in
+        subst (λ (u : Generators). ReadsPairTree n w (limit - length (p ++ false ∷ [])) u xs rest) e
+        (subst (λ (m : ℕ). ReadsPairTree n w m (cone_at n w (p ++ side ∷ [])) xs rest) same h)
 
     whole : (rest : Lines) → ReadsPairTree n w (suc (limit - length (p ++ false ∷ []))) (cone_at n w p) (Split i j ∷ (zero.lines ++ (one.lines ++ rest))) rest
     whole rest = (
@@ -96,7 +99,8 @@ split_added n w limit i j p old first second new short not_closed split e f zero
           e,
           (
             one.lines ++ rest,
-            below false (child (cone_at n w p) (i - 1) (j - 1)) (zero.lines ++ (one.lines ++ rest)) (one.lines ++ rest) (cone_at-side n w p false (Some (i - 1, j - 1)) e) (zero.reads (one.lines ++ rest)),
+            below false (child (cone_at n w p) (i - 1) (j - 1)) (zero.lines ++ (one.lines ++ rest)) (one.lines
+                ++ rest) (cone_at-side n w p false (Some (i - 1, j - 1)) e) (zero.reads (one.lines ++ rest)),
             below true (child (cone_at n w p) (j - 1) (i - 1)) (one.lines ++ rest) rest (cone_at-side n w p true (Some (i - 1, j - 1)) e) (one.reads rest),
           ),
         ),
@@ -106,38 +110,40 @@ split_added n w limit i j p old first second new short not_closed split e f zero
     reads : (rest : Lines) → ReadsPairTree n w (limit - length p) (cone_at n w p) ((Split i j ∷ (zero.lines ++ one.lines)) ++ rest) rest
     reads rest =
         subst (λ (m : ℕ). ReadsPairTree n w m (cone_at n w p) ((Split i j ∷ (zero.lines ++ one.lines)) ++ rest) rest) (sym (level false))
-        (subst (λ (xs : Lines). ReadsPairTree n w (suc (limit - length (p ++ false ∷ []))) (cone_at n w p) (Split i j ∷ xs) rest) (sym (append_assoc zero.lines one.lines rest)) (whole rest))
+        (subst (λ (xs : Lines). ReadsPairTree n w (suc (limit - length (p ++ false ∷ []))) (cone_at n w p) (Split i j ∷ xs) rest)
+        (sym (append_assoc zero.lines one.lines rest)) (whole rest))
 
 -- ---- a cone as it is shown
-pub child_reached : (n : ℕ) (w : Matrix) (c d : ShownCone) (i j : ℕ) (side : Bool) → IsConeAt n w c.path c → IsPair c.size (shown_gram c) i j → IsChild c i j side d → IsConeAt n w d.path d
+pub child_reached : (n : ℕ) (w : Matrix) (c d : ShownCone) (i j : ℕ) (side : Bool) → IsConeAt n w c.path c → IsPair c.size (shown_gram c) i j
+    → IsChild c i j side d → IsConeAt n w d.path d
 child_reached n w c d i j side h p is = subst (λ (r : Path). IsConeAt n w r d) (sym is.path_is) (child_at_path n w c.path c h i j side d p is)
 
 pub open_at : (n : ℕ) (w : Matrix) (c : ShownCone) → IsConeAt n w c.path c → (IsClosed c.size (shown_gram c) (pos 0) → ⊥) → ¬ IsClosedAt n w c.path (pos 0)
 open_at n w c h open_cone closed = open_cone (closed_there n w c.path c h (pos 0) closed)
 
-pub wide_child : (n : ℕ) (w : Matrix) (c : ShownCone) (i j : ℕ) (at : WideAt) → IsConeAt n w c.path c → IsPair c.size (shown_gram c) i j → IsFirstWideBelow c i j at → HasWideChild n w c.path
+pub wide_child : (n : ℕ) (w : Matrix) (c : ShownCone) (i j : ℕ) (at : WideAt) → IsConeAt n w c.path c → IsPair c.size (shown_gram c) i j
+    → IsFirstWideBelow c i j at → HasWideChild n w c.path
 wide_child n w c i j at h p wide = (at.path, at.entry, wide_below_at n w c.path c h i j at p wide)
 
 pub split_is : (n : ℕ) (w : Matrix) (c : ShownCone) (i j : ℕ) → IsConeAt n w c.path c → 1 ≤ i → IsPair c.size (shown_gram c) (i - 1) (j - 1) → IsSplitLine n i j
-split_is n w c i j h first p = let o = p.order in let r = p.range in let s = h.cone.size in record { first = first; order = omega (arith, o, first); last = omega (arith, r, s, o) }
+split_is n w c i j h first p = let o = p.order in let r = p.range in let s = h.cone.size in
+    record { first = first; order = omega (arith, o, first); last = omega (arith, r, s, o) }
 
 -- the tree is added to nothing
 pub from_nothing : (n : ℕ) (w : Matrix) (d : ℕ) (v : Generators) (new : Lines) → AddsTree n w d v [] new → ReadsPairTree n w d v new []
 from_nothing n w d v new a = subst (λ (xs : Lines). ReadsPairTree n w d v xs []) (append-nil a.lines ∙ sym a.added) (a.reads [])
 
 -- what was added from a path that is named in two ways
-pub same_way : (n : ℕ) (w : Matrix) (limit : ℕ) (p r : Path) (old new : Lines) → p ≡ r → AddsTree n w (limit - length p) (cone_at n w p) old new → AddsTree n w (limit - length r) (cone_at n w r) old new
+pub same_way : (n : ℕ) (w : Matrix) (limit : ℕ) (p r : Path) (old new : Lines) → p ≡ r → AddsTree n w (limit - length p) (cone_at n w p) old new
+    → AddsTree n w (limit - length r) (cone_at n w r) old new
 same_way n w limit p r old new e h = subst (λ (q : Path). AddsTree n w (limit - length q) (cone_at n w q) old new) e h
 
 -- ---- the root
-pub root_is_made : (n : ℕ) (w : Matrix) (fail : ConeFail) → Fits n w unit_vectors → IsWideWhere (IsFirstWideAt n w []) fail → ⊥
-unfolding cone_from
-root_is_made n w (Wide at) fits h = fits at.entry h.entry.over
-root_is_made n w OutOfMemory fits h = h
-
-pub pair_tree_made : (n : ℕ) (w : Matrix) (limit : ℕ) (p : Path) (old new : Lines) → p ≡ [] → old ≡ [] → AddsTree n w (limit - length p) (cone_at n w p) old new → IsPairTree n w limit new
+pub pair_tree_made : (n : ℕ) (w : Matrix) (limit : ℕ) (p : Path) (old new : Lines) → p ≡ [] → old ≡ [] → AddsTree n w (limit - length p) (cone_at n w p) old new
+    → IsPairTree n w limit new
 unfolding IsPairTree cone_from
 pair_tree_made n w limit p old new e f h =
     let a = same_way n w limit p [] old new e h in
     let less : limit - 0 ≡ limit = omega arith in
-    subst (λ (m : ℕ). ReadsPairTree n w m unit_vectors new []) less (from_nothing n w (limit - 0) unit_vectors new (subst (λ (xs : Lines). AddsTree n w (limit - 0) unit_vectors xs new) f a))
+    subst (λ (m : ℕ). ReadsPairTree n w m unit_vectors new []) less
+    (from_nothing n w (limit - 0) unit_vectors new (subst (λ (xs : Lines). AddsTree n w (limit - 0) unit_vectors xs new) f a))

@@ -37,10 +37,12 @@ record SameLines (n : ℕ) (w : Matrix) (xs ys rest other : Lines) : Type 0 wher
   first : xs ≡ front ++ rest
   second : ys ≡ front ++ other
 
-one_tree : (n : ℕ) (w : Matrix) (d e : ℕ) (v : Generators) (xs ys rest other : Lines) → ReadsPairTree n w d v xs rest → ReadsPairTree n w e v ys other → SameLines n w xs ys rest other
+one_tree : (n : ℕ) (w : Matrix) (d e : ℕ) (v : Generators) (xs ys rest other : Lines) → ReadsPairTree n w d v xs rest → ReadsPairTree n w e v ys other
+    → SameLines n w xs ys rest other
 one_tree n w d e v [] ys rest other h k = absurd h
 one_tree n w d e v (Leaf ∷ xs) [] rest other h k = absurd k
-one_tree n w d e v (Leaf ∷ xs) (Leaf ∷ ys) rest other h k = record { front = Leaf ∷ []; first = ap (λ (zs : Lines). Leaf ∷ zs) h.1; second = ap (λ (zs : Lines). Leaf ∷ zs) k.1 }
+one_tree n w d e v (Leaf ∷ xs) (Leaf ∷ ys) rest other h k =
+    record { front = Leaf ∷ []; first = ap (λ (zs : Lines). Leaf ∷ zs) h.1; second = ap (λ (zs : Lines). Leaf ∷ zs) k.1 }
 one_tree n w d zero v (Leaf ∷ xs) (Split k l ∷ ys) rest other h r = absurd r
 one_tree n w d (suc e) v (Leaf ∷ xs) (Split k l ∷ ys) rest other h r = absurd (r.0 h.0)
 one_tree n w zero e v (Split i j ∷ xs) ys rest other h k = absurd h
@@ -49,15 +51,19 @@ one_tree n w (suc d) e v (Split i j ∷ xs) (Leaf ∷ ys) rest other h k = absur
 one_tree n w (suc d) zero v (Split i j ∷ xs) (Split k l ∷ ys) rest other h r = absurd r
 one_tree n w (suc d) (suc e) v (Split i j ∷ xs) (Split k l ∷ ys) rest other (o, (s, (p, (b, x, y)))) (u, (t, (q, (c, z, m)))) =
     let pairs = some_pair (sym p ∙ q) in
-    let z' : ReadsPairTree n w e (child v (i - 1) (j - 1)) ys c = subst (λ (f : ℕ × ℕ). ReadsPairTree n w e (child v f.0 f.1) ys c) (sym (ap₂ (λ (f : ℕ) (g : ℕ). (f, g)) pairs.0 pairs.1)) z in
-    let m' : ReadsPairTree n w e (child v (j - 1) (i - 1)) c other = subst (λ (f : ℕ × ℕ). ReadsPairTree n w e (child v f.1 f.0) c other) (sym (ap₂ (λ (f : ℕ) (g : ℕ). (f, g)) pairs.0 pairs.1)) m in
-    joined (one_tree n w d e (child v (i - 1) (j - 1)) xs ys b c x z') (one_tree n w d e (child v (j - 1) (i - 1)) b c rest other y m') (same_split i j k l n s t pairs.0 pairs.1)
+    let z' : ReadsPairTree n w e (child v (i - 1) (j - 1)) ys c =
+    subst (λ (f : ℕ × ℕ). ReadsPairTree n w e (child v f.0 f.1) ys c) (sym (ap₂ (λ (f : ℕ) (g : ℕ). (f, g)) pairs.0 pairs.1)) z in
+    let m' : ReadsPairTree n w e (child v (j - 1) (i - 1)) c other =
+    subst (λ (f : ℕ × ℕ). ReadsPairTree n w e (child v f.1 f.0) c other) (sym (ap₂ (λ (f : ℕ) (g : ℕ). (f, g)) pairs.0 pairs.1)) m in
+    joined (one_tree n w d e (child v (i - 1) (j - 1)) xs ys b c x z') (one_tree n w d e (child v (j - 1) (i - 1)) b c rest other y m')
+    (same_split i j k l n s t pairs.0 pairs.1)
   where
     joined : SameLines n w xs ys b c → SameLines n w b c rest other → Split i j ≡ Split k l → SameLines n w (Split i j ∷ xs) (Split k l ∷ ys) rest other
     joined f g same = record {
       front = Split i j ∷ (f.front ++ g.front);
       first = ap (λ (zs : Lines). Split i j ∷ zs) (f.first ∙ ap (λ (zs : Lines). f.front ++ zs) g.first ∙ sym (append_assoc f.front g.front rest));
-      second = ap₂ (λ (a : TreeLine) (zs : Lines). a ∷ zs) (sym same) (f.second ∙ ap (λ (zs : Lines). f.front ++ zs) g.second ∙ sym (append_assoc f.front g.front other));
+      second = ap₂ (λ (a : TreeLine) (zs : Lines). a ∷ zs) (sym same) (f.second ∙ ap (λ (zs : Lines). f.front ++ zs) g.second
+          ∙ sym (append_assoc f.front g.front other));
     }
 
 pub one_pair_tree : (n : ℕ) (w : Matrix) (d e : ℕ) (xs ys : Lines) → IsPairTree n w d xs → IsPairTree n w e ys → xs ≡ ys

@@ -21,7 +21,8 @@ one-verdict bytes = by (verdict_of bytes) refl
   where
     by : (read : Result Verdict VerdictFault) → verdict_of bytes ≡ read → HasOneVerdict bytes
     by (Ok v) is = inl (v, proof-of-one bytes v is)
-    by (Err f) is = inr (f, record { fault = is; alone = λ kind line h. same f (record { kind = kind; line = line }) (sym is ∙ h); no_text = λ a h. apart (sym is ∙ h) })
+    by (Err f) is =
+        inr (f, record { fault = is; alone = λ kind line h. same f (record { kind = kind; line = line }) (sym is ∙ h); no_text = λ a h. apart (sym is ∙ h) })
       where
         same : (f g : VerdictFault) → ◌≡◌ {A = Result Verdict VerdictFault} (Err f) (Err g) → (g.kind ≡ f.kind) × (g.line ≡ f.line)
         same f g e = (cc, cc)

@@ -1,5 +1,6 @@
 -- The written form of a verdict is read as that verdict.
-use Rattle.std.proofs.Common.{◌≡◌, ℕ, zero, suc, ◌+◌, ◌-◌, ◌<◌, ◌≤◌, ◌^◌, true, false, cond, List, [], ◌∷◌, ◌++◌, length, get_or, map, Option, None, ℤ, pos, nat_abs, Result, Ok, Err, codes, refl, sym, ap, ap₂, subst, ◌∙◌, append_assoc, arith, inl, inr, lit<, lit≤}
+use Rattle.std.proofs.Common.{◌≡◌, ℕ, suc, ◌+◌, ◌-◌, ◌<◌, ◌≤◌, ◌^◌, true, false, cond, List, [], ◌∷◌, ◌++◌, length, get_or, map, Option, None, ℤ, pos, nat_abs}
+use Rattle.std.proofs.Common.{Result, Ok, Err, codes, refl, sym, ap, ap₂, subst, ◌∙◌, append_assoc, arith, inl, inr, lit<, lit≤}
 use Rattle.std.specs.List.{All, AllByRecursion, flat_map, range_with_len}
 use Rattle.std.specs.Fmt.{decimal, signed_decimal}
 use Rattle.std.specs.Ordering.{int_eq}
@@ -10,6 +11,7 @@ use Rattle.std.proofs.lemmas.List.FromFn.{length-map-range_with_len}
 use Rattle.exact_forms.specs.Rational.{Rational}
 use Rattle.exact_forms.specs.Factors.{WeightedVector}
 use Rattle.exact_forms.specs.Triangles.{triangle, entry_in}
+use Rattle.exact_forms.proofs.Lists.{each_of_range}
 use Rattle.symmetric_matrix.specs.Symmetric.{Symmetric, FitsInt, IsLower, IsSymmetricMatrix}
 use Rattle.symmetric_matrix.specs.Lists.{IsVector}
 use Rattle.text_lines.specs.Lines.{TextLine, content_lines, end_line}
@@ -18,7 +20,8 @@ use Rattle.text_lines.specs.Readings.{◌>>=◌, numbers_of, at_line, first_line
 use Rattle.text_lines.specs.Square.{lower_of, full, first_unlike}
 use Rattle.text_lines.specs.Spelling.{line_of_words, quotient_word}
 use Rattle.text_lines.proofs.Numerals.{is_whole-decimal, whole_value-decimal}
-use Rattle.text_lines.proofs.FractionTexts.{IsWithin, IsPlainWord, whole-read, signed-read, quotient-read, plain-decimal, plain-signed, plain-quotient, plain-codes}
+use Rattle.text_lines.proofs.FractionTexts.{IsWithin, IsPlainWord, whole-read, signed-read, quotient-read, plain-decimal, plain-signed, plain-quotient}
+use Rattle.text_lines.proofs.FractionTexts.{plain-codes}
 use Rattle.text_lines.specs.Skipped.{IsSkippedLine, IsSkippedText, ended_lines}
 use Rattle.text_lines.proofs.PlainLines.{joined, IsPlainLine, numbered, in_line-joined}
 use Rattle.text_lines.proofs.SkippedLines.{content_lines-behind}
@@ -32,9 +35,12 @@ use Rattle.cone_tree_certificate.specs.declared.tree.TreeLine.TheVariants.{Leaf,
 use Rattle.cone_tree_certificate.specs.declared.verdict.Verdict.{Verdict}
 use Rattle.cone_tree_certificate.specs.declared.verdict.Verdict.TheVariants.{Factors, Separator}
 use Rattle.cone_tree_certificate.specs.Trees.{Lines, IsSplitLine}
-use Rattle.cone_tree_certificate.specs.Words.{widest, largest_count, largest_coordinate, largest_generator, whole_word, signed_word, ratio_word, dimension_of, verdict_header, coordinates_of, term_of, signed_row, value_of, count_of, split_at_pair, split_of, tree_line_of}
-use Rattle.cone_tree_certificate.specs.ProofText.{verdict_fault, missing_line, verdict_line, no_more_lines, factors_of, NumberedRow, numbered_row, row_entries, unless_unlike, separator_of, verdict_of_lines, verdict_of, ProofText}
-use Rattle.cone_tree_certificate.specs.VerdictText.{term_words, tree_words, written_terms, written_rows, written_tree, verdict_text, HasSplit, IsNarrowTerm, IsWholeSeparator, IsWritable, IsWhole}
+use Rattle.cone_tree_certificate.specs.Words.{widest, largest_count, largest_coordinate, largest_generator, whole_word, signed_word, ratio_word, dimension_of}
+use Rattle.cone_tree_certificate.specs.Words.{verdict_header, coordinates_of, term_of, signed_row, value_of, count_of, split_at_pair, split_of, tree_line_of}
+use Rattle.cone_tree_certificate.specs.ProofText.{verdict_fault, missing_line, verdict_line, no_more_lines, factors_of, NumberedRow, numbered_row, row_entries}
+use Rattle.cone_tree_certificate.specs.ProofText.{unless_unlike, separator_of, verdict_of_lines, verdict_of, ProofText}
+use Rattle.cone_tree_certificate.specs.VerdictText.{term_words, tree_words, written_terms, written_rows, written_tree, verdict_text, HasSplit, IsNarrowTerm}
+use Rattle.cone_tree_certificate.specs.VerdictText.{IsWholeSeparator, IsWritable, IsWhole}
 
 -- ---- words
 wide : (n limit : ℕ) → limit < 2 ^ 127 → n ≤ limit → n < 2 ^ 128
@@ -95,7 +101,13 @@ split-read n i j few s =
     let first = s.first in
     let order = s.order in
     let last = s.last in
-    rw (whole_word-read largest_generator i (lit< tt) (omega (arith, order, last)), whole_word-read largest_generator j (lit< tt) (omega (arith, last)), le-leb 1 i first, lt-ltb i j order, le-leb j n last) refl
+    rw (
+      whole_word-read largest_generator i (lit< tt) (omega (arith, order, last)),
+      whole_word-read largest_generator j (lit< tt) (omega (arith, last)),
+      le-leb 1 i first,
+      lt-ltb i j order,
+      le-leb j n last,
+    ) refl
 
 tree-read : (n : ℕ) (line : TreeLine) → n ≤ 6 → HasSplit n line → tree_line_of n (tree_words line) ≡ Ok line
 unfolding tree_line_of
@@ -117,7 +129,8 @@ within q num den = record { low = lit< tt; num = num; den = den }
 term-read : (n : ℕ) (term : WeightedVector) → length term.vector ≡ n → IsNarrowTerm term → term_of n (term_words term) ≡ Ok term
 unfolding term_of
 term-read n term len h =
-    let vector : coordinates_of n (map decimal term.vector) ≡ Ok term.vector = rw (← len) (coordinates-read term.vector (each-below term.vector h.vector.small)) in
+    let vector : coordinates_of n (map decimal term.vector) ≡ Ok term.vector =
+    rw (← len) (coordinates-read term.vector (each-below term.vector h.vector.small)) in
     rw (ratio_word-read term.weight (within term.weight h.num h.den), vector) refl
 
 row-read : (row : List ℤ) → AllByRecursion FitsInt row → signed_row (length row) (map signed_decimal row) ≡ Ok row
@@ -135,14 +148,21 @@ plain-signeds [] h = tt
 plain-signeds (z ∷ row) h = (plain-signed z (wide (nat_abs z) widest (lit< tt) h.0), plain-signeds row h.1)
 
 plain-term : (term : WeightedVector) → IsNarrowTerm term → IsPlainLine (term_words term)
-plain-term term h = record { some = omega arith; plain = (plain-quotient widest term.weight (within term.weight h.num h.den), plain-decimals term.vector (each-below term.vector h.vector.small)) }
+plain-term term h =
+    record {
+      some = omega arith;
+      plain = (plain-quotient widest term.weight (within term.weight h.num h.den), plain-decimals term.vector (each-below term.vector h.vector.small));
+    }
 
 plain-tree : (n : ℕ) (line : TreeLine) → n ≤ 6 → HasSplit n line → IsPlainLine (tree_words line)
 plain-tree n Leaf few s = record { some = omega arith; plain = (plain-codes (codes "leaf") refl, tt) }
 plain-tree n (Split i j) few s =
     let order = s.order in
     let last = s.last in
-    record { some = omega arith; plain = (plain-codes (codes "split") refl, (plain-decimal i (omega (arith, order, last)), (plain-decimal j (omega (arith, last)), tt))) }
+    record {
+      some = omega arith;
+      plain = (plain-codes (codes "split") refl, (plain-decimal i (omega (arith, order, last)), (plain-decimal j (omega (arith, last)), tt)));
+    }
 
 plain-row : (row : List ℤ) → 0 < length row → AllByRecursion FitsInt row → IsPlainLine (map signed_decimal row)
 plain-row [] some h = absurd (omega arith)
@@ -167,13 +187,16 @@ items-same : {A : Type 0} (k : ℕ) (xs : List A) → items_from (λ k x. x) k x
 items-same k [] = refl
 items-same {A} k (x ∷ xs) = ap (λ (t : List A). x ∷ t) (items-same (k + 1) xs)
 
-each-plain : {B : Type 0} (ws : B → List (List ℕ)) (P : B → Type 0) → ((x : B) → P x → IsPlainLine (ws x)) → (xs : List B) (rest : List (List (List ℕ))) → AllByRecursion P xs → AllByRecursion IsPlainLine rest → AllByRecursion IsPlainLine (map ws xs ++ rest)
+each-plain : {B : Type 0} (ws : B → List (List ℕ)) (P : B → Type 0) → ((x : B) → P x → IsPlainLine (ws x)) → (xs : List B) (rest : List (List (List ℕ)))
+    → AllByRecursion P xs → AllByRecursion IsPlainLine rest → AllByRecursion IsPlainLine (map ws xs ++ rest)
 each-plain ws P good [] rest h r = r
 each-plain ws P good (x ∷ xs) rest h r = (good x h.0, each-plain ws P good xs rest h.1 r)
 
-flat-words : {B : Type 0} (ws : B → List (List ℕ)) (xs : List B) (rest : List (List (List ℕ))) → flat_map line_of_words (map ws xs ++ rest) ≡ flat_map (λ x. line_of_words (ws x)) xs ++ flat_map line_of_words rest
+flat-words : {B : Type 0} (ws : B → List (List ℕ)) (xs : List B) (rest : List (List (List ℕ)))
+    → flat_map line_of_words (map ws xs ++ rest) ≡ flat_map (λ x. line_of_words (ws x)) xs ++ flat_map line_of_words rest
 flat-words ws [] rest = refl
-flat-words ws (x ∷ xs) rest = ap (λ (t : List ℕ). line_of_words (ws x) ++ t) (flat-words ws xs rest) ∙ sym (append_assoc (line_of_words (ws x)) (flat_map (λ x. line_of_words (ws x)) xs) (flat_map line_of_words rest))
+flat-words ws (x ∷ xs) rest = ap (λ (t : List ℕ). line_of_words (ws x) ++ t) (flat-words ws xs rest)
+    ∙ sym (append_assoc (line_of_words (ws x)) (flat_map (λ x. line_of_words (ws x)) xs) (flat_map line_of_words rest))
 
 -- both facts of each element
 both : {B : Type 0} (P Q : B → Type 0) (xs : List B) → All P xs → All Q xs → AllByRecursion (λ x. P x × Q x) xs
@@ -233,10 +256,6 @@ entry_in-narrow n lower i j h = elim (cases_lt i j) [
   | inr le ↦ rw (le-ltb i j le) (entry-narrow n lower (triangle i + j) h)
 ]
 
-each-range : {A : Type 0} (P : A → Type 0) (f : ℕ → A) (a n : ℕ) → ((i : ℕ) → P (f i)) → AllByRecursion P (map f (range_with_len a n))
-each-range P f a zero h = tt
-each-range P f a (suc n) h = (h a, each-range P f (a + 1) n h)
-
 -- n narrow entries
 record IsRow (n : ℕ) (row : List ℤ) : Type 0 where
   len : length row ≡ n
@@ -244,9 +263,9 @@ record IsRow (n : ℕ) (row : List ℤ) : Type 0 where
 
 full-rows : (w : Symmetric) → IsSymmetricMatrix w → AllByRecursion (IsRow w.size) (full (pos 0) w.size w.lower)
 unfolding full
-full-rows w h = each-range (IsRow w.size) (λ i. map (λ j. entry_in (pos 0) w.lower i j) (range_with_len 0 w.size)) 0 w.size (λ i. record {
+full-rows w h = each_of_range (IsRow w.size) (λ i. map (λ j. entry_in (pos 0) w.lower i j) (range_with_len 0 w.size)) 0 w.size (λ i. record {
   len = length-map-range_with_len (λ j. entry_in (pos 0) w.lower i j) 0 w.size;
-  narrow = each-range FitsInt (λ j. entry_in (pos 0) w.lower i j) 0 w.size (λ j. entry_in-narrow w.size w.lower i j h.triangle);
+  narrow = each_of_range FitsInt (λ j. entry_in (pos 0) w.lower i j) 0 w.size (λ j. entry_in-narrow w.size w.lower i j h.triangle);
 })
 
 abbrev seen : ℕ → List ℤ → NumberedRow

@@ -1,5 +1,6 @@
 -- W's table is compared with its mirror image, place by place.
-use Rattle.std.proofs.Common.{◌≡◌, ℕ, ◌-◌, ◌<◌, Bool, not, List, [], ◌∷◌, length, get_or, take, map, find, Option, None, Result, Ok, ℤ, pos, refl, sym, ap, ap₂, ◌∙◌, arith}
+use Rattle.std.proofs.Common.{◌≡◌, ℕ, ◌-◌, ◌<◌, Bool, not, List, [], ◌∷◌, length, get_or, take, map, find, Option, None, Result, Ok, ℤ, pos, refl, sym, ap, ap₂}
+use Rattle.std.proofs.Common.{◌∙◌, arith}
 use Rattle.std.specs.List.{list_all, range_with_len}
 use Rattle.std.specs.Ordering.{int_eq}
 use Rattle.std.proofs.lemmas.List.{get_or-map, get_or-take, length-take-le, length-map, get_or_default}
@@ -24,7 +25,8 @@ front_entries size row = take size row.entries
 
 pub length-entries : (t : SignedTable) → length (w_entries t) ≡ t.size
 unfolding w_entries
-length-entries t = length-map (take t.size t.rows) (front_entries t.size) ∙ length-take-le t.size t.rows (let few = t.few in let room = t.room in omega (arith, few, room))
+length-entries t = length-map (take t.size t.rows) (front_entries t.size)
+    ∙ length-take-le t.size t.rows (let few = t.few in let room = t.room in omega (arith, few, room))
 
 row_at-entries : (t : SignedTable) (i : ℕ) (row : SignedRow) → i < t.size → get_or (w_entries t) i [] ≡ take t.size (get_or t.rows i row).entries
 unfolding w_entries
@@ -34,12 +36,14 @@ row_at-entries t i row lt =
     let len : length (take t.size t.rows) ≡ t.size = length-take-le t.size t.rows (omega (arith, few, room)) in
     get_or-map (front_entries t.size) (take t.size t.rows) i row [] (omega (arith, len)) ∙ ap (front_entries t.size) (get_or-take t.size t.rows i row lt)
 
-pub entry_at-entries : (t : SignedTable) (i j : ℕ) (row : SignedRow) (entry : ℤ) → i < t.size → j < t.size → get_or (get_or t.rows i row).entries j entry ≡ entry_at (pos 0) (w_entries t) i j
+pub entry_at-entries : (t : SignedTable) (i j : ℕ) (row : SignedRow) (entry : ℤ) → i < t.size → j < t.size
+    → get_or (get_or t.rows i row).entries j entry ≡ entry_at (pos 0) (w_entries t) i j
 unfolding entry_at
 entry_at-entries t i j row entry lt left =
     let few = t.few in
     let room = (get_or t.rows i row).room in
-    rw (row_at-entries t i row lt) (get_or_default (get_or t.rows i row).entries j entry (pos 0) (omega (arith, few, room)) ∙ sym (get_or-take t.size (get_or t.rows i row).entries j (pos 0) left))
+    rw (row_at-entries t i row lt) (get_or_default (get_or t.rows i row).entries j entry (pos 0) (omega (arith, few, room))
+    ∙ sym (get_or-take t.size (get_or t.rows i row).entries j (pos 0) left))
 
 -- the entry at (i, j) is as that at (j, i)
 abbrev pub is_like : SignedTable → ℕ → ℕ → Bool
@@ -80,9 +84,11 @@ unfolding w_entries
 entries-table t = entries-seen t.size (take t.size t.rows)
 
 length-table : (t : SignedTable) → length (table_rows_of t) ≡ t.size
-length-table t = length-map (take t.size t.rows) (seen_row t.size) ∙ length-take-le t.size t.rows (let few = t.few in let room = t.room in omega (arith, few, room))
+length-table t = length-map (take t.size t.rows) (seen_row t.size)
+    ∙ length-take-le t.size t.rows (let few = t.few in let room = t.room in omega (arith, few, room))
 
-pub separated-table : (t : SignedTable) (value : Rational) (tree : Lines) (first : Option ℕ) (w : Symmetric) → first ≡ None → w ≡ record { size = t.size; lower = lower_of (w_entries t) } → unless_unlike (table_rows_of t) value tree first ≡ Ok (Separator w value tree)
+pub separated-table : (t : SignedTable) (value : Rational) (tree : Lines) (first : Option ℕ) (w : Symmetric) → first ≡ None
+    → w ≡ record { size = t.size; lower = lower_of (w_entries t) } → unless_unlike (table_rows_of t) value tree first ≡ Ok (Separator w value tree)
 separated-table t value tree first w alike is = rw (alike, is) (ap₂ made (length-table t) (ap (λ (rows : List (List ℤ)). lower_of rows) (entries-table t)))
   where
     made : ℕ → List ℤ → Result Verdict VerdictFault

@@ -15,7 +15,8 @@ ReadsPairTree n w d v (Leaf ∷ more) rest = IsClosed n (gram n w v) (pos 0) × 
 ReadsPairTree n w zero v (Split i j ∷ more) rest = ⊥
 ReadsPairTree n w (suc d) v (Split i j ∷ more) rest =
     (¬ IsClosed n (gram n w v) (pos 0)) × (IsSplitLine n i j × ((pair_of n (gram n w v) ≡ Some (i - 1, j - 1))
-    × ((between : Lines) × ReadsPairTree n w d (child v (i - 1) (j - 1)) more between × ReadsPairTree n w d (child v (j - 1) (i - 1)) between rest)))
+    × ((between : Lines) × ReadsPairTree n w d (child v (i - 1) (j - 1)) more between
+    × ReadsPairTree n w d (child v (j - 1) (i - 1)) between rest)))
 
 unfoldable pub IsPairTree : ℕ → Matrix → ℕ → Lines → Type 0
 IsPairTree n w d lines = ReadsPairTree n w d unit_vectors lines []

@@ -62,14 +62,17 @@ pub record NumberedRow : Type 0 where
   pub entries : List ℤ
 
 abbrev pub numbered_row : ℕ → TextLine → Result NumberedRow VerdictFault
-numbered_row n line = verdict_line (signed_row n) line >>= λ entries. Ok (record { line = line.number; entries = entries })
+numbered_row n line =
+    verdict_line (signed_row n) line >>= λ entries. Ok (record { line = line.number; entries = entries })
 
 abbrev pub row_entries : List NumberedRow → List (List ℤ)
 row_entries rows = map (λ row. row.entries) rows
 
 abbrev pub unless_unlike : List NumberedRow → Rational → Lines → Option ℕ → Result Verdict VerdictFault
-unless_unlike rows value tree None = Ok (Separator (record { size = length rows; lower = lower_of (row_entries rows) }) value tree)
-unless_unlike rows value tree (Some i) = Err (verdict_fault NotSymmetric (slice_index_or rows i (record { line = 0; entries = [] })).line)
+unless_unlike rows value tree None =
+    Ok (Separator (record { size = length rows; lower = lower_of (row_entries rows) }) value tree)
+unless_unlike rows value tree (Some i) =
+    Err (verdict_fault NotSymmetric (slice_index_or rows i (record { line = 0; entries = [] })).line)
 
 unfoldable pub separator_of : ℕ → ℕ → List TextLine → Result Verdict VerdictFault
 separator_of n end lines = do
@@ -77,7 +80,8 @@ separator_of n end lines = do
   value ← first_line (verdict_line value_of) (missing_line end) rows.rest
   count ← first_line (verdict_line count_of) (missing_line end) value.1
   tree ← many (verdict_line (tree_line_of n)) (missing_line end) count.0 count.1
-  no_more_lines tree.rest (unless_unlike rows.items value.0 tree.items (first_unlike int_eq (pos 0) (row_entries rows.items)))
+  no_more_lines tree.rest
+      (unless_unlike rows.items value.0 tree.items (first_unlike int_eq (pos 0) (row_entries rows.items)))
 
 -- ---- the text
 
@@ -86,7 +90,8 @@ verdict_after end lines (OfFactors n k) = factors_of n k end lines
 verdict_after end lines (OfSeparator n) = separator_of n end lines
 
 unfoldable pub verdict_of_lines : ℕ → List TextLine → Result Verdict VerdictFault
-verdict_of_lines end lines = first_line (verdict_line verdict_header) (verdict_fault NoHeader end) lines >>= λ header. verdict_after end header.1 header.0
+verdict_of_lines end lines = first_line (verdict_line verdict_header) (verdict_fault NoHeader end) lines
+    >>= λ header. verdict_after end header.1 header.0
 
 unfoldable pub verdict_of : List ℕ → Result Verdict VerdictFault
 verdict_of bytes = verdict_of_lines (end_line bytes) (content_lines bytes)

@@ -27,7 +27,9 @@ ReadsTree n w d v [] rest = ⊥
 ReadsTree n w d v (Leaf ∷ more) rest = IsClosed n (gram n w v) (pos 0) × (more ≡ rest)
 ReadsTree n w zero v (Split i j ∷ more) rest = ⊥
 ReadsTree n w (suc d) v (Split i j ∷ more) rest =
-    IsSplitLine n i j × ((between : Lines) × ReadsTree n w d (child v (i - 1) (j - 1)) more between × ReadsTree n w d (child v (j - 1) (i - 1)) between rest)
+    IsSplitLine n i j
+    × ((between : Lines) × ReadsTree n w d (child v (i - 1) (j - 1)) more between
+    × ReadsTree n w d (child v (j - 1) (i - 1)) between rest)
 
 unfoldable pub TreeProves : ℕ → Matrix → Lines → Type 0
 TreeProves n w lines = ReadsTree n w 200 unit_vectors lines []

@@ -44,7 +44,8 @@ unfoldable pub written_tree : Lines → List ℕ
 written_tree lines = flat_map (λ line. line_of_words (tree_words line)) lines
 
 unfoldable pub verdict_text : Verdict → List ℕ
-verdict_text (Factors n terms) = line_of_words (codes "factored" ∷ decimal n ∷ decimal (length terms) ∷ []) ++ written_terms terms
+verdict_text (Factors n terms) = line_of_words (codes "factored" ∷ decimal n ∷ decimal (length terms) ∷ [])
+    ++ written_terms terms
 verdict_text (Separator w value tree) =
     line_of_words (codes "separated" ∷ decimal w.size ∷ []) ++ written_rows w
     ++ line_of_words (codes "value" ∷ quotient_word value ∷ [])

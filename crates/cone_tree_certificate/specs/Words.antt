@@ -72,7 +72,9 @@ last_of_words read words = first_word read ShortLine words >>= λ first. ended L
 
 -- ---- the header
 unfoldable pub dimension_of : List ℕ → Result ℕ VerdictKind
-dimension_of word = if is_whole word && nat_lt 0 (whole_value word) && nat_lt (whole_value word) 7 then Ok (whole_value word) else Err BadDimension
+dimension_of word =
+    if is_whole word && nat_lt 0 (whole_value word) && nat_lt (whole_value word) 7 then Ok (whole_value word) else Err
+    BadDimension
 
 abbrev pub separation_header : List ℕ → List ℕ → Result Header VerdictKind
 separation_header name size =

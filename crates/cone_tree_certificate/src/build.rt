@@ -21,7 +21,9 @@ fn push_node(w: &SymInt, limit: u8, cone: Cone, tree: &mut ConeTree) -> Result<(
     requires answer { IsClosedAnswer Mode.Sign w.now.size (entry w.now) limit (pos 0) }
     requires reached { IsConeAt w.now.size (entry w.now) cone.path cone }
     requires way { IsOnWayDown w.now.size (entry w.now) limit cone.path }
-    ensures { OnOk result (AddsTree w.now.size (entry w.now) (limit - length cone.path) (cone_at w.now.size (entry w.now) cone.path) tree.old tree.new) }
+    ensures { OnOk result
+        (AddsTree w.now.size (entry w.now) (limit - length cone.path) (cone_at w.now.size (entry w.now) cone.path)
+        tree.old tree.new) }
 {
     let _n = w.n();
     if closed(&cone, 0) {

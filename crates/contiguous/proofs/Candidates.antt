@@ -9,6 +9,7 @@ use lib.IntN.{*ℤ_comm}
 use Rattle.commutative_ring.proofs.Expand.{expand, linear}
 use Rattle.commutative_ring.proofs.Laws.{one_mul_ℤ, zero_mul_ℤ}
 use Rattle.commutative_ring.specs.Gcd.{divided}
+use Rattle.commutative_ring.proofs.SmallCases.{at_least_one}
 use Rattle.exact_forms.specs.Rational.{ratio}
 use Rattle.exact_forms.specs.Forms.{form}
 use Rattle.exact_forms.specs.Vectors.{coordinate, IsNonzero}
@@ -76,9 +77,6 @@ positive_abs : (b : ℤ) → b <ℤ pos 0 → 0 < nat_abs b
 positive_abs (pos n) h = absurd (omega (arith, ints))
 positive_abs (negsuc n) h = omega arith
 
-one_at_least : (n : ℕ) → 0 < n → pos 1 ≤ℤ pos n
-one_at_least n h = omega (arith, ints)
-
 nonzero_at_least : (n : ℕ) → n ≢ 0 → pos 1 ≤ℤ pos n
 nonzero_at_least zero e = absurd (e refl)
 nonzero_at_least (suc n) e = omega (arith, ints)
@@ -94,7 +92,7 @@ module _ (l : Line) (sizes : l.direction.size ≡ l.matrix.size) (w : List ℕ) 
         size = h.size;
         nonzero = h.nonzero;
         below = subst (λ (b : ℤ). b <ℤ pos 0) same_value h.below;
-        den = subst (λ (q : ℤ). pos 1 ≤ℤ q) (sym (q_is l w)) (one_at_least r.den (den_positive r));
+        den = subst (λ (q : ℤ). pos 1 ≤ℤ q) (sym (q_is l w)) (at_least_one r.den (den_positive r));
         ratio = ap₂ (λ (p : ℤ) (b : ℤ). p *ℤ b) (p_is l w) (sym (abs_of_negative (value_at l.direction w) h.below ∙ ap neg_ℤ same_value))
             ∙ ratio_value (value_at l.matrix w -ℤ l.mu) (nat_abs (value_at l.direction w)) (positive_abs (value_at l.direction w) h.below)
             ∙ *ℤ_comm (value_at l.matrix w -ℤ l.mu) (pos r.den)

@@ -19,9 +19,11 @@ use Rattle.contiguous.specs.declared.tightening.TightenFail.{TightenFail}
 use Rattle.contiguous.specs.declared.tightening.TightenFail.TheVariants as fail
 use Rattle.contiguous.specs.declared.tightening.SearchEnd.{SearchEnd}
 use Rattle.contiguous.specs.declared.tightening.SearchEnd.TheVariants as ending
-use Rattle.contiguous.specs.Tightenings.{Line, tighten_of, IsTightenable, IsRunAlong, IsCandidateAnswer, IsNeighbourAnswer, IsNeighbour, CanBeMadeAgain, NeighbourHolds, tightens_of, last_tighten}
+use Rattle.contiguous.specs.Tightenings.{Line, tighten_of, IsTightenable, IsRunAlong, IsCandidateAnswer, IsNeighbourAnswer, IsNeighbour, CanBeMadeAgain}
+use Rattle.contiguous.specs.Tightenings.{NeighbourHolds, tightens_of, last_tighten}
 use Rattle.contiguous.specs.Making.{IsTightenMade, IsMakingRefused, IsCandidateReached, LeavesVector, IsPerfectFound, IsSearchEnd, IsRefusedBy, IsEndedBy}
-use Rattle.contiguous.proofs.Candidates.{candidate_is, candidate_size, is_tightening, is_candidate, divisor_nonzero, level_positive, is_reached, combined_at, candidate_at, candidate_level_at}
+use Rattle.contiguous.proofs.Candidates.{candidate_is, candidate_size, is_tightening, is_candidate, divisor_nonzero, level_positive, is_reached, combined_at}
+use Rattle.contiguous.proofs.Candidates.{candidate_at, candidate_level_at}
 use Rattle.contiguous.proofs.Ways.{extended, IsMadeTo, IsOnWay, last_push, made_next, ready_next}
 
 pub run_of : (l : Line) (D : ℕ) (w : List ℕ) (budget : ℕ) (ts : List Tighten) → IsMadeTo l D w ts → length ts ≤ budget → IsRunAlong l D w budget ts
@@ -39,9 +41,13 @@ ends_wide l D w budget k ts x (op.Gram at) h less r = absurd r
 ends_wide l D w budget k ts x (op.Bound z) h less r = absurd r
 
 -- the budget is used, and a Tighten is due
-pub ends_pivots : (l : Line) (D : ℕ) (w : List ℕ) (budget k : ℕ) (ts : List Tighten) (x : List ℕ) → IsOnWay l D w k ts x → k ≡ budget
+pub ends_pivots : {l : Line} {D : ℕ} {w : List ℕ} {k : ℕ} {ts : List Tighten} {x : List ℕ} (budget : ℕ) → IsOnWay l D w k ts x → k ≡ budget
     → IsNeighbourAnswer l D w budget (neighbour.Pivots ts)
-ends_pivots l D w budget k ts x h e = (run_of l D w budget ts h.made (omega (arith, h.count)), record { vector = x; due = h.ready.due; used = h.count ∙ e })
+ends_pivots {l} {D} {w} {k} {ts} {x} budget h e = (
+  run_of l D w budget ts h.made
+      (omega (arith, h.count)),
+  record { vector = x; due = h.ready.due; used = h.count ∙ e },
+)
 
 -- ---- the search of the last candidate ends the way
 pub candidate_answer : (l : Line) (D : ℕ) (ts : List Tighten) (x : List ℕ) (answer : SearchAnswer)
@@ -65,7 +71,8 @@ is_neighbour l sizes vectors M E D ts x found h f =
       size = size;
       minimum = N;
       perfect =
-          neighbour_perfect l.matrix.size (entry l.matrix) (entry l.direction) l.mu vectors M E x (tighten_of l x).p (tighten_of l x).q _ (candidate_level_at l x)
+          neighbour_perfect l.matrix.size (entry l.matrix) (entry l.direction) l.mu vectors M E x (tighten_of l x).p (tighten_of l x).q _
+          (candidate_level_at l x)
           (entry (candidate_at l x)) T C found N;
       primitive = ap divisor_of (candidate_is l (tighten_of l x)) ∙ primitive_lowest (combined_at l x) (divisor_nonzero l sizes x h M.positive);
       last = tighten_of l x;
@@ -76,10 +83,12 @@ is_neighbour l sizes vectors M E D ts x found h f =
       on_the_line = C;
       new_vector = record {
         listed =
-            new_vector_listed l.matrix.size (entry l.matrix) (entry l.direction) l.mu vectors M E x (tighten_of l x).p (tighten_of l x).q _ (candidate_level_at l x)
+            new_vector_listed l.matrix.size (entry l.matrix) (entry l.direction) l.mu vectors M E x (tighten_of l x).p (tighten_of l x).q _
+            (candidate_level_at l x)
             (entry (candidate_at l x)) T C found N;
         fresh =
-            new_vector_new l.matrix.size (entry l.matrix) (entry l.direction) l.mu vectors M E x (tighten_of l x).p (tighten_of l x).q _ (candidate_level_at l x)
+            new_vector_new l.matrix.size (entry l.matrix) (entry l.direction) l.mu vectors M E x (tighten_of l x).p (tighten_of l x).q _
+            (candidate_level_at l x)
             (entry (candidate_at l x)) T C;
       };
     }
@@ -166,7 +175,8 @@ pub record IsAppended (l : Line) (ts : List Tighten) (x : List ℕ) (c : Symmetr
   pub level : z ≡ candidate_level_at l x
   pub steps : us ≡ extended l ts x
 
-pub appended_steps : (l : Line) (ts us : List Tighten) (x : List ℕ) (made : Candidate) (z : ℤ) → IsTightenMade l x made → z ≡ made.level → us ≡ ts ++ made.step ∷ []
+pub appended_steps : (l : Line) (ts us : List Tighten) (x : List ℕ) (made : Candidate) (z : ℤ) → IsTightenMade l x made → z ≡ made.level
+    → us ≡ ts ++ made.step ∷ []
     → IsAppended l ts x made.matrix z us
 appended_steps l ts us x made z m e s = record { matrix = m.matrix; level = e ∙ m.level; steps = s ∙ ap (λ (t : Tighten). ts ++ t ∷ []) m.step }
 
@@ -192,15 +202,24 @@ module _ (l : Line) (ts : List Tighten) (x : List ℕ) (c : Symmetric) (z : ℤ)
   pub vector_moved : (D : ℕ) (y : List ℕ) → LeavesVector c z D y → LeavesVector (candidate_at l x) (candidate_level_at l x) D y
   vector_moved D y s = subst (λ (z : ℤ). LeavesVector (candidate_at l x) z D y) A.level (subst (λ (c : Symmetric). LeavesVector c z D y) A.matrix s)
 
-module _ (l : Line) (sizes : l.direction.size ≡ l.matrix.size) (vectors : List (List ℕ)) (M : IsMinimum l.matrix.size (entry l.matrix) l.mu vectors)
-    (E : IsExtremeRay l.matrix.size (entry l.direction) vectors)
-    (D : ℕ) (w : List ℕ) (k : ℕ) (ts : List Tighten) (x : List ℕ) (h : IsOnWay l D w k ts x) (made : Candidate) (m : IsTightenMade l x made) (z : ℤ)
-    (us : List Tighten) (level_is : z ≡ made.level) (steps_are : us ≡ ts ++ made.step ∷ []) where
+-- one Tighten more on the way along a ray from a perfect matrix
+pub record IsStepMade (l : Line) (vectors : List (List ℕ)) (D : ℕ) (w : List ℕ) (k : ℕ) (ts : List Tighten) (x : List ℕ) (made : Candidate) (z : ℤ)
+    (us : List Tighten) : Type 0 where
+  pub sizes : l.direction.size ≡ l.matrix.size
+  pub minimum : IsMinimum l.matrix.size (entry l.matrix) l.mu vectors
+  pub extreme : IsExtremeRay l.matrix.size (entry l.direction) vectors
+  pub way : IsOnWay l D w k ts x
+  pub made_is : IsTightenMade l x made
+  pub level_is : z ≡ made.level
+  pub steps_are : us ≡ ts ++ made.step ∷ []
+
+module _ {l : Line} {vectors : List (List ℕ)} {D : ℕ} {w : List ℕ} {k : ℕ} {ts : List Tighten} {x : List ℕ} {made : Candidate} {z : ℤ} {us : List Tighten}
+    (s : IsStepMade l vectors D w k ts x made z us) where
   here : IsAppended l ts x made.matrix z us
-  here = appended_steps l ts us x made z m level_is steps_are
+  here = appended_steps l ts us x made z s.made_is s.level_is s.steps_are
 
   longer_made : IsMadeTo l D w (extended l ts x)
-  longer_made = made_next l sizes vectors M E D w x ts h.made h.ready m.owes
+  longer_made = made_next l s.sizes vectors s.minimum s.extreme D w x ts s.way.made s.way.ready s.made_is.owes
 
   -- one more Tighten
   pub goes_on : (y : List ℕ) → LeavesVector made.matrix z D y → IsOnWay l D w (k + 1) us y
@@ -208,20 +227,21 @@ module _ (l : Line) (sizes : l.direction.size ≡ l.matrix.size) (vectors : List
       subst (λ (us : List Tighten). IsOnWay l D w (k + 1) us y) (sym here.steps)
       record {
         made = longer_made;
-        ready = ready_next l sizes vectors M E D w x y ts h.ready.tightenable (vector_moved l ts x made.matrix z us here D y v);
-        count = length_push ts (tighten_of l x) ∙ ap (λ (k : ℕ). k + 1) h.count;
+        ready = ready_next l s.sizes vectors s.minimum s.extreme D w x y ts s.way.ready.tightenable (vector_moved l ts x made.matrix z us here D y v);
+        count = length_push ts (tighten_of l x) ∙ ap (λ (k : ℕ). k + 1) s.way.count;
       }
 
-  module _ (e : SearchEnd) (a : Neighbour) (s : IsSearchEnd made.matrix z D e) (b : IsEndedBy e made.matrix z us a) where
+  module _ (e : SearchEnd) (a : Neighbour) (f : IsSearchEnd made.matrix z D e) (b : IsEndedBy e made.matrix z us a) where
     pub ends_answer : (budget : ℕ) → k < budget → IsNeighbourAnswer l D w budget a
     ends_answer budget less =
-        ends_searched l D w budget ts x e a longer_made (omega (arith, h.count)) (search_moved l ts x made.matrix z us here D e s)
+        ends_searched l D w budget ts x e a longer_made (omega (arith, s.way.count)) (search_moved l ts x made.matrix z us here D e f)
         (ended_moved l ts x made.matrix z us here e a b)
 
     pub ends_holds : NeighbourHolds l vectors a
     ends_holds =
-        holds_searched l sizes vectors M E D w ts x e a longer_made h.ready.tightenable (search_moved l ts x made.matrix z us here D e s)
+        holds_searched l s.sizes vectors s.minimum s.extreme D w ts x e a longer_made s.way.ready.tightenable (search_moved l ts x made.matrix z us here D e f)
         (ended_moved l ts x made.matrix z us here e a b)
 
     pub ends_again : CanBeMadeAgain l (tightens_of a)
-    ends_again = again_searched l D w (extended l ts x) e (candidate_at l x) (candidate_level_at l x) a longer_made (ended_moved l ts x made.matrix z us here e a b)
+    ends_again = again_searched l D w (extended l ts x) e (candidate_at l x) (candidate_level_at l x) a longer_made
+        (ended_moved l ts x made.matrix z us here e a b)

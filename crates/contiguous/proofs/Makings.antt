@@ -1,12 +1,14 @@
 -- The operations of one Tighten.
-use Rattle.std.specs.Prelude.{◌≡◌, ℕ, ℤ, ◌*ℤ◌, List, [], ◌∷◌, ◌++◌, map, Option, Some, None, Result, Ok, Err, IfOk, IfErr}
-use Rattle.std.proofs.Common.{sym, ◌∙◌, ap, ap₂, refl, subst}
+use Rattle.std.specs.Prelude.{◌≡◌, ℕ, ℤ, pos, nat_abs, ◌*ℤ◌, ◌-ℤ◌, List, [], ◌∷◌, ◌++◌, map, Option, Some, None, Result, Ok, Err, IfOk, IfErr}
+use Rattle.std.proofs.Common.{sym, ◌∙◌, ap, ap₂, refl, subst, to_z, of_z, to_z-of_z, SFits}
+use mir.Syntax.{w128}
+use Rattle.exact_forms.specs.Rational.{Rational, ratio}
 use Rattle.symmetric_matrix.specs.declared.operation.IntOp.{IntOp}
 use Rattle.symmetric_matrix.specs.Operations.{is_owed, mul_op}
 use Rattle.symmetric_matrix.specs.Owed.{first_owed, answer}
 use Rattle.symmetric_matrix.specs.Recipes.{form_ops}
 use Rattle.symmetric_matrix.specs.Symmetric.{Symmetric}
-use Rattle.symmetric_matrix.specs.Combining.{combine_ops}
+use Rattle.symmetric_matrix.specs.Combining.{combine_ops, combined}
 use Rattle.symmetric_matrix.proofs.Owed.{first_owed-append_some, first_owed-append_none, first_owed-map, some_of_err, none_of_ok}
 use Rattle.contiguous.specs.declared.tightening.TightenFail.{TightenFail}
 use Rattle.contiguous.specs.declared.tightening.TightenFail.TheVariants as fail
@@ -14,8 +16,8 @@ use Rattle.contiguous.specs.declared.neighbour.NeighbourOp.{NeighbourOp}
 use Rattle.contiguous.specs.declared.neighbour.NeighbourOp.TheVariants as op
 use Rattle.contiguous.specs.declared.neighbour.Tighten.{Tighten}
 use Rattle.contiguous.specs.declared.tightening.Candidate.{Candidate}
-use Rattle.contiguous.specs.Tightenings.{Line, line_along, tighten_of, tighten_ops, neighbour_is_owed}
-use Rattle.contiguous.proofs.Candidates.{vector_is}
+use Rattle.contiguous.specs.Tightenings.{Line, line_along, value_at, tighten_of, tighten_ops, neighbour_is_owed}
+use Rattle.contiguous.proofs.Candidates.{vector_is, p_is, q_is, combined_at}
 use Rattle.contiguous.specs.Making.{IsValueRefused, scale_ops, IsScaled, IsScaleRefused, IsTightenMade, IsMakingRefused}
 
 tagged_some : (tag : IntOp → NeighbourOp) (xs : List IntOp) (o : IntOp) → ((o : IntOp) → neighbour_is_owed (tag o) ≡ is_owed o)
@@ -121,6 +123,34 @@ module _ (l : Line) (w : List ℕ) where
   tighten_is v p q ev ep eq =
       ap (λ (v : List ℕ). record { vector = v; p = p; q = q }) (ev ∙ sym (vector_is l w))
       ∙ ap₂ (λ (p : ℤ) (q : ℤ). record { vector = (tighten_of l w).vector; p = p; q = q }) ep eq
+
+-- ---- the parts of a Tighten's λ, as code reads them
+pub record AreParts (l : Line) (w : List ℕ) (p q : ℤ) : Type 0 where
+  pub p_is : p ≡ (tighten_of l w).p
+  pub q_is : q ≡ (tighten_of l w).q
+
+pub parts_read : (l : Line) (w : List ℕ) (p q : ℤ) (r : Rational) → SFits w128 p → SFits w128 q → p ≡ r.num → q ≡ pos r.den
+    → r ≡ ratio (value_at l.matrix w -ℤ l.mu) (nat_abs (value_at l.direction w)) → AreParts l w (to_z w128 (of_z w128 p)) (to_z w128 (of_z w128 q))
+parts_read l w p q r fp fq ep eq h = record {
+  p_is = to_z-of_z fp ∙ ep ∙ ap (λ (r : Rational). r.num) h ∙ sym (p_is l w);
+  q_is = to_z-of_z fq ∙ eq ∙ ap (λ (r : Rational). pos r.den) h ∙ sym (q_is l w);
+}
+
+-- the level was made
+pub record IsLevelMade (l : Line) (w : List ℕ) (p q z : ℤ) : Type 0 where
+  pub owes : first_owed is_owed (scale_ops l w) ≡ first_owed is_owed (combine_ops q l.matrix p l.direction)
+  pub level : z ≡ (tighten_of l w).q *ℤ l.mu
+
+pub level_read : (l : Line) (w : List ℕ) (p q mu z : ℤ) → AreParts l w p q → mu ≡ l.mu → answer is_owed (mul_op q mu ∷ []) (q *ℤ mu) ≡ Ok z
+    → IsLevelMade l w p q z
+level_read l w p q mu z a em h =
+    let made = level_made l w q mu z a.q_is em h in record {
+      owes = made.0 ∙ ap₂ (λ (q : ℤ) (p : ℤ). first_owed is_owed (combine_ops q l.matrix p l.direction)) (sym a.q_is) (sym a.p_is);
+      level = made.1;
+    }
+
+pub combined_read : {l : Line} {w : List ℕ} {p q : ℤ} (m : Symmetric) → AreParts l w p q → m ≡ combined q l.matrix p l.direction → m ≡ combined_at l w
+combined_read {l} {w} {p} {q} m a e = e ∙ ap₂ (λ (q : ℤ) (p : ℤ). combined q l.matrix p l.direction) a.q_is a.p_is
 
 pub line_same_made : (P R : Symmetric) (w : List ℕ) (r : Result Candidate TightenFail) (m n : ℤ) → m ≡ n → IfOk r (λ c. IsScaled (line_along P m R) w c)
     → IfOk r (λ c. IsScaled (line_along P n R) w c)

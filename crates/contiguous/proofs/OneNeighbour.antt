@@ -15,7 +15,9 @@ use Rattle.contiguous.specs.declared.neighbour.NeighbourOp.{NeighbourOp}
 use Rattle.contiguous.specs.declared.neighbour.NeighbourOp.TheVariants as op
 use Rattle.contiguous.specs.declared.neighbour.Neighbour.{Neighbour}
 use Rattle.contiguous.specs.declared.neighbour.Neighbour.TheVariants as neighbour
-use Rattle.contiguous.specs.Tightenings.{Line, tighten_of, candidate, level, tighten_ops, tightens_ops, neighbour_is_owed, CallsFor, IsNextVector, AreNextTightens, AreTightens, last_tighten, IsVectorDue, IsRunAlong, IsCandidateAnswer, IsOperationOwed, IsNeighbourAnswer, tightens_of}
+use Rattle.contiguous.specs.Tightenings.{Line, tighten_of, candidate, level, tighten_ops, tightens_ops, neighbour_is_owed, CallsFor, IsNextVector}
+use Rattle.contiguous.specs.Tightenings.{AreNextTightens, AreTightens, last_tighten, IsVectorDue, IsRunAlong, IsCandidateAnswer, IsOperationOwed}
+use Rattle.contiguous.specs.Tightenings.{IsNeighbourAnswer, tightens_of}
 use Rattle.contiguous.specs.Theorems.{AtMostOneNeighbour}
 use Rattle.contiguous.proofs.Candidates.{vector_is}
 use Rattle.contiguous.proofs.Ways.{DueAt, last_from, last_is}
@@ -268,7 +270,8 @@ module _ (l : Line) (D : ℕ) where
   same_steps : (w : List ℕ) (budget : ℕ) (a b : Neighbour) → IsMadeOf w budget a → IsMadeOf w budget b → tightens_of a ≡ tightens_of b
   same_steps w budget a b h k = by (same_or_front w (tightens_of a) (tightens_of b) h.run.are k.run.are)
     where
-      by : (tightens_of a ≡ tightens_of b) ⊎ (IsFront w (tightens_of a) (tightens_of b) ⊎ IsFront w (tightens_of b) (tightens_of a)) → tightens_of a ≡ tightens_of b
+      by : (tightens_of a ≡ tightens_of b) ⊎ (IsFront w (tightens_of a) (tightens_of b) ⊎ IsFront w (tightens_of b) (tightens_of a))
+          → tightens_of a ≡ tightens_of b
       by (inl e) = e
       by (inr (inl f)) = absurd (no_front w budget (tightens_of a) (tightens_of b) h.ending h.ends k.run f)
       by (inr (inr f)) = absurd (no_front w budget (tightens_of b) (tightens_of a) k.ending k.ends h.run f)

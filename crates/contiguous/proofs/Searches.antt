@@ -30,7 +30,8 @@ module _ (c : Symmetric) (z : ℤ) (D : ℕ) where
   contains_first [] x e = absurd cc
   contains_first (y ∷ ys) x e = (0, omega arith, cc)
 
-  pub first_left : (m : ℤ) (vectors : List (List ℕ)) (x : List ℕ) → IsCandidateReached c z → m ≢ z → IsSearchAnswer Mode.Least c.size (entry c) D (Found m vectors)
+  pub first_left : (m : ℤ) (vectors : List (List ℕ)) (x : List ℕ) → IsCandidateReached c z → m ≢ z
+      → IsSearchAnswer Mode.Least c.size (entry c) D (Found m vectors)
       → IsMinimum c.size (entry c) m vectors
       → slice_get vectors 0 ≡ Some x → LeavesVector c z D x
   first_left m vectors x r e a h at =

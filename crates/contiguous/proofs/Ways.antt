@@ -12,7 +12,9 @@ use Rattle.symmetric_matrix.specs.Symmetric.{Symmetric, entry}
 use Rattle.symmetric_matrix.specs.Owed.{first_owed}
 use Rattle.symmetric_matrix.proofs.Owed.{first_owed-append_none}
 use Rattle.contiguous.specs.declared.neighbour.Tighten.{Tighten}
-use Rattle.contiguous.specs.Tightenings.{Line, value_at, tighten_of, candidate, level, tighten_ops, tightens_ops, neighbour_is_owed, IsTightenable, IsNextVector, AreNextTightens, AreTightens, last_tighten, IsVectorDue, IsFalling, IsTightenAlong, CanBeMadeAgain, searched_after}
+use Rattle.contiguous.specs.Tightenings.{Line, value_at, tighten_of, candidate, level, tighten_ops, tightens_ops, neighbour_is_owed, IsTightenable}
+use Rattle.contiguous.specs.Tightenings.{IsNextVector, AreNextTightens, AreTightens, last_tighten, IsVectorDue, IsFalling, IsTightenAlong, CanBeMadeAgain}
+use Rattle.contiguous.specs.Tightenings.{searched_after}
 use Rattle.contiguous.specs.Making.{LeavesVector}
 use Rattle.contiguous.proofs.Candidates.{candidate_at, candidate_level_at, vector_is, is_tightening, is_candidate, candidate_size}
 
@@ -174,7 +176,8 @@ module _ (l : Line) (sizes : l.direction.size ≡ l.matrix.size) (vectors : List
       let long : length y ≡ l.matrix.size = v.size ∙ size in
       let nonzero : IsNonzero l.matrix.size y = subst (λ (n : ℕ). IsNonzero n y) size v.nonzero in
       let less = subst (λ (n : ℕ). form n (entry (candidate_at l x)) (coordinate y) <ℤ candidate_level_at l x) size v.below in
-      let below = below_again l.matrix.size (entry l.matrix) (entry l.direction) l.mu vectors M E x (tighten_of l x).p (tighten_of l x).q _ (candidate_level_at l x)
+      let below = below_again l.matrix.size (entry l.matrix) (entry l.direction) l.mu vectors M E x (tighten_of l x).p (tighten_of l x).q _
+      (candidate_level_at l x)
       (entry (candidate_at l x))
       (is_tightening l sizes x h) (is_candidate l sizes x h M.positive) y long nonzero less in
       record {

@@ -3,16 +3,15 @@ use Rattle.std.specs.Prelude.{◌≡◌, ◌≢◌, ℕ, zero, suc, ◌+◌, ◌
 use Rattle.std.specs.List.{All}
 use Rattle.std.proofs.Common.{arith, sym, ◌∙◌, ap, refl, subst}
 use Rattle.std.proofs.lemmas.Int.{ints}
-use Rattle.commutative_ring.specs.SumOf.{sum_of}
 use lib.IntN.{*ℤ_comm}
 use Rattle.commutative_ring.proofs.Expand.{expand, linear, two_times}
 use Rattle.commutative_ring.proofs.Laws.{zero_mul_ℤ, neg_is_mul}
-use Rattle.exact_forms.specs.Sums.{sum_to}
-use Rattle.exact_forms.specs.Forms.{bilinear, form, IsSymmetric}
+use Rattle.exact_forms.specs.Forms.{form, IsSymmetric}
 use Rattle.exact_forms.specs.Triangles.{triangle, entry_in}
 use Rattle.exact_forms.specs.Vectors.{coordinate, IsNonzero}
 use Rattle.exact_forms.specs.Copositive.{Matrix, IsMinimum, IsPerfect, IsExtremeRay}
 use Rattle.exact_forms.proofs.Order.{positive_mul}
+use Rattle.exact_forms.proofs.TwoRows.{at_two, form_two}
 use Rattle.symmetric_matrix.specs.Symmetric.{Symmetric, IsLower, FitsInt, entry}
 use Rattle.symmetric_matrix.specs.FirstMatrix.{first_matrix}
 use Rattle.symmetric_matrix.proofs.FirstMatrix.{first_is_minimum, start_list_is_perfect}
@@ -23,16 +22,6 @@ use Rattle.contiguous.specs.Tightenings.{value_at}
 abbrev pub first_ray : Symmetric
 first_ray = record { size = 2; lower = pos 0 ∷ negsuc 0 ∷ pos 2 ∷ [] }
 
-abbrev at_two : Matrix → ℤ → ℤ → ℤ
-at_two z x y = (z 0 0 *ℤ (x *ℤ x) +ℤ z 0 1 *ℤ (x *ℤ y)) +ℤ (z 1 0 *ℤ (y *ℤ x) +ℤ z 1 1 *ℤ (y *ℤ y))
-
-form_two : (z : Matrix) (a b : ℕ) → form 2 z (coordinate (a ∷ b ∷ [])) ≡ at_two z (pos a) (pos b)
-unfolding bilinear sum_to sum_of
-form_two z a b = plain (z 0 0 *ℤ (pos a *ℤ pos a)) (z 0 1 *ℤ (pos a *ℤ pos b)) (z 1 0 *ℤ (pos b *ℤ pos a)) (z 1 1 *ℤ (pos b *ℤ pos b))
-  where
-    plain : (p q r s : ℤ) → (pos 0 +ℤ ((pos 0 +ℤ p) +ℤ q)) +ℤ ((pos 0 +ℤ r) +ℤ s) ≡ (p +ℤ q) +ℤ (r +ℤ s)
-    plain p q r s = omega (arith, ints)
-
 three : List (List ℕ)
 three = (0 ∷ 1 ∷ []) ∷ (1 ∷ 0 ∷ []) ∷ (1 ∷ 1 ∷ []) ∷ []
 
@@ -41,7 +30,9 @@ unfolding three start_list late_runs runs_from run_vector run_digit
 three_is = refl
 
 -- its value at a vector
-value_is : (a b : ℕ) → form 2 (entry first_ray) (coordinate (a ∷ b ∷ [])) ≡ (pos 0 *ℤ (pos a *ℤ pos a) +ℤ negsuc 0 *ℤ (pos a *ℤ pos b)) +ℤ (negsuc 0 *ℤ (pos b *ℤ pos a) +ℤ pos 2 *ℤ (pos b *ℤ pos b))
+value_is : (a b : ℕ)
+    → form 2 (entry first_ray) (coordinate (a ∷ b ∷ []))
+    ≡ (pos 0 *ℤ (pos a *ℤ pos a) +ℤ negsuc 0 *ℤ (pos a *ℤ pos b)) +ℤ (negsuc 0 *ℤ (pos b *ℤ pos a) +ℤ pos 2 *ℤ (pos b *ℤ pos b))
 unfolding entry entry_in triangle
 value_is a b = form_two (entry first_ray) a b
 
@@ -59,27 +50,28 @@ steep x y positive less = subst (λ (z : ℤ). z <ℤ pos 0) (sym (value_is x y)
             → ((pos 0 *ℤ xx +ℤ negsuc 0 *ℤ xy) +ℤ (negsuc 0 *ℤ yx +ℤ pos 2 *ℤ yy)) <ℤ pos 0
         plain xx xy yx yy m c e h = rw (zero_mul_ℤ xx, neg_is_mul xy, neg_is_mul yx, two_times yy) (omega (arith, ints))
 
-module _ (z : Matrix) (s : IsSymmetric 2 z) (vanishes : All (λ v. form 2 (entry first_ray) (coordinate v) ≡ pos 0 → form 2 z (coordinate v) ≡ pos 0) three) where
-  first : at_two z (pos 1) (pos 0) ≡ pos 0
-  unfolding three
-  first = sym (form_two z 1 0) ∙ vanishes 1 [] (omega arith) (value_is 1 0)
+module _ (z : Matrix) (s : IsSymmetric 2 z) (vanishes : All (λ v. form 2 (entry first_ray) (coordinate v) ≡ pos 0 → form 2 z (coordinate v) ≡ pos 0) three)
+  where
+    first : at_two z (pos 1) (pos 0) ≡ pos 0
+    unfolding three
+    first = sym (form_two z 1 0) ∙ vanishes 1 [] (omega arith) (value_is 1 0)
 
-  both : at_two z (pos 1) (pos 1) ≡ pos 0
-  unfolding three
-  both = sym (form_two z 1 1) ∙ vanishes 2 [] (omega arith) (value_is 1 1)
+    both : at_two z (pos 1) (pos 1) ≡ pos 0
+    unfolding three
+    both = sym (form_two z 1 1) ∙ vanishes 2 [] (omega arith) (value_is 1 1)
 
-  mirror : z 0 1 ≡ z 1 0
-  mirror = s 0 1 (omega arith) (omega arith)
+    mirror : z 0 1 ≡ z 1 0
+    mirror = s 0 1 (omega arith) (omega arith)
 
-  multiple : (i j : ℕ) → i < 2 → j < 2 → pos 1 *ℤ z i j ≡ neg_ℤ (z 0 1) *ℤ entry first_ray i j
-  unfolding entry entry_in triangle
-  multiple zero zero li lj = let a = first in omega (arith, ints)
-  multiple zero (suc zero) li lj = omega (arith, ints)
-  multiple (suc zero) zero li lj = let d = mirror in omega (arith, ints)
-  multiple (suc zero) (suc zero) li lj = let a = first in let c = both in let d = mirror in omega (arith, ints)
-  multiple zero (suc (suc j)) li lj = absurd (omega arith)
-  multiple (suc zero) (suc (suc j)) li lj = absurd (omega arith)
-  multiple (suc (suc i)) j li lj = absurd (omega arith)
+    multiple : (i j : ℕ) → i < 2 → j < 2 → pos 1 *ℤ z i j ≡ neg_ℤ (z 0 1) *ℤ entry first_ray i j
+    unfolding entry entry_in triangle
+    multiple zero zero li lj = let a = first in omega (arith, ints)
+    multiple zero (suc zero) li lj = omega (arith, ints)
+    multiple (suc zero) zero li lj = let d = mirror in omega (arith, ints)
+    multiple (suc zero) (suc zero) li lj = let a = first in let c = both in let d = mirror in omega (arith, ints)
+    multiple zero (suc (suc j)) li lj = absurd (omega arith)
+    multiple (suc zero) (suc (suc j)) li lj = absurd (omega arith)
+    multiple (suc (suc i)) j li lj = absurd (omega arith)
 
 not_zero : pos 2 ≡ pos 0 → ⊥
 not_zero e = absurd (omega (arith, ints))
@@ -104,7 +96,8 @@ first_ray_extreme = subst (λ (vs : List (List ℕ)). IsExtremeRay 2 (entry firs
 }
 
 -- ---- what the way asks
-module _ (q r : Symmetric) (vectors : List (List ℕ)) (m : ℤ) (q_is : q ≡ first_matrix 2) (r_is : r ≡ first_ray) (vectors_are : vectors ≡ start_list 2) (m_is : m ≡ pos 2) where
+module _ (q r : Symmetric) (vectors : List (List ℕ)) (m : ℤ) (q_is : q ≡ first_matrix 2) (r_is : r ≡ first_ray) (vectors_are : vectors ≡ start_list 2)
+    (m_is : m ≡ pos 2) where
   size_is : q.size ≡ 2
   unfolding first_matrix
   size_is = ap (λ (q : Symmetric). q.size) q_is
@@ -120,7 +113,8 @@ module _ (q r : Symmetric) (vectors : List (List ℕ)) (m : ℤ) (q_is : q ≡ f
       (subst (λ (vectors : List (List ℕ)). IsMinimum 2 (entry (first_matrix 2)) (pos 2) vectors) (sym vectors_are) (first_is_minimum 2 (omega arith))))
 
   pub perfect : IsPerfect q.size vectors
-  perfect = subst (λ (n : ℕ). IsPerfect n vectors) (sym size_is) (subst (λ (vectors : List (List ℕ)). IsPerfect 2 vectors) (sym vectors_are) (start_list_is_perfect 2))
+  perfect = subst (λ (n : ℕ). IsPerfect n vectors) (sym size_is)
+      (subst (λ (vectors : List (List ℕ)). IsPerfect 2 vectors) (sym vectors_are) (start_list_is_perfect 2))
 
   pub extreme : IsExtremeRay q.size (entry r) vectors
   extreme =
@@ -136,7 +130,8 @@ module _ (q r : Symmetric) (vectors : List (List ℕ)) (m : ℤ) (q_is : q ≡ f
 
   module _ (w : List ℕ) (x y : ℕ) (w_is : w ≡ x ∷ y ∷ []) (second : 0 < y) (greater : y < x) where
     pub below : value_at r w <ℤ pos 0
-    below = subst (λ (r : Symmetric). value_at r w <ℤ pos 0) (sym r_is) (subst (λ (w : List ℕ). value_at first_ray w <ℤ pos 0) (sym w_is) (steep x y second greater))
+    below = subst (λ (r : Symmetric). value_at r w <ℤ pos 0) (sym r_is)
+        (subst (λ (w : List ℕ). value_at first_ray w <ℤ pos 0) (sym w_is) (steep x y second greater))
 
 -- its entries fit
 pub ray_lower : IsLower 2 (pos 0 ∷ negsuc 0 ∷ pos 2 ∷ [])

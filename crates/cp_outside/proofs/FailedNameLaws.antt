@@ -11,13 +11,15 @@ use Rattle.cp_outside.specs.FailedNames.{times_failed}
 pub count_by-push : {X : Type 0} (p : X → Bool) (xs : List X) (y : X) → count_by p (xs ++ y ∷ []) ≡ count_by p xs + cond (p y) 1 0
 count_by-push p xs y = grind (arith, common_steps)
 
-pub times_failed-once_more : (failed : List (String Global)) (copy : String Global) (name : List ℕ) → string_bytes copy ≡ name → times_failed (failed ++ copy ∷ []) name ≡ times_failed failed name + 1
+pub times_failed-once_more : (failed : List (String Global)) (copy : String Global) (name : List ℕ) → string_bytes copy ≡ name
+    → times_failed (failed ++ copy ∷ []) name ≡ times_failed failed name + 1
 unfolding times_failed
 times_failed-once_more failed copy name same =
     let is : bytes_eq name (string_bytes copy) ≡ true = (bytes_eq-Decides name (string_bytes copy)).1 (sym same) in
     rw (count_by-push (λ (one : String Global). bytes_eq name (string_bytes one)) failed copy, is) refl
 
-pub times_failed-others_stay : (failed : List (String Global)) (copy : String Global) (name other : List ℕ) → string_bytes copy ≡ name → other ≢ name → times_failed (failed ++ copy ∷ []) other ≡ times_failed failed other
+pub times_failed-others_stay : (failed : List (String Global)) (copy : String Global) (name other : List ℕ) → string_bytes copy ≡ name → other ≢ name
+    → times_failed (failed ++ copy ∷ []) other ≡ times_failed failed other
 unfolding times_failed
 times_failed-others_stay failed copy name other same differs =
     let is : bytes_eq other (string_bytes copy) ≡ false =

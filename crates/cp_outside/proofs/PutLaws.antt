@@ -44,7 +44,8 @@ AppendsFront-more old new front rest part =
     }
 
 -- a front behind what was written is a front of both
-pub AppendsFront-after : (old between new : Option (List ℕ)) (front rest : List ℕ) → between ≡ appended old front → AppendsFront between new rest → AppendsFront old new (front ++ rest)
+pub AppendsFront-after : (old between new : Option (List ℕ)) (front rest : List ℕ) → between ≡ appended old front → AppendsFront between new rest
+    → AppendsFront old new (front ++ rest)
 AppendsFront-after old between new front rest written part =
     record {
       kept = length front + part.kept;

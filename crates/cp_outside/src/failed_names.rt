@@ -12,8 +12,10 @@ pub(crate) fn add_failed(
     failed: &mut Vec<String>,
     name: &str,
 ) -> Result<(), AllocError>
-    ensures once_more { OnOk result (times_failed failed.new.items name.now ≡ times_failed failed.old.items name.now + 1) }
-    ensures others_stay { (other : List ℕ) → other ≢ name.now → times_failed failed.new.items other ≡ times_failed failed.old.items other }
+    ensures once_more { OnOk result (times_failed failed.new.items name.now
+        ≡ times_failed failed.old.items name.now + 1) }
+    ensures others_stay { (other : List ℕ) → other ≢ name.now
+        → times_failed failed.new.items other ≡ times_failed failed.old.items other }
     ensures behind_the_others { OnOk result (take (vec_len failed.new - 1) failed.new.items ≡ failed.old.items) }
     ensures refused { OnErr result (failed.new.items ≡ failed.old.items) }
 {

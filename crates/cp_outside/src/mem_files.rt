@@ -39,7 +39,8 @@ impl MemFiles {
     #[tactic(auto, using(std::proofs::lemmas::Map::Text::text_keys), unfolding(crate::specs::MemFiles::told_by, crate::specs::MemFiles::faults_by))]
     pub fn add(&mut self, name: &str, bytes: &[u8]) -> Result<(), AllocError>
         ensures added { OnOk result (told_by self.new name.now ≡ Some bytes.now) }
-        ensures others_stay { OnOk result ((other : List ℕ) → other ≢ name.now → told_by self.new other ≡ told_by self.old other) }
+        ensures others_stay { OnOk result ((other : List ℕ) → other ≢ name.now
+            → told_by self.new other ≡ told_by self.old other) }
         ensures refused { OnErr result ((other : List ℕ) → told_by self.new other ≡ told_by self.old other) }
         ensures faults_stay { (other : List ℕ) → faults_by self.new other ≡ faults_by self.old other }
     {
@@ -67,10 +68,12 @@ impl Files for MemFiles {
         ensures quiet { UnlessReadFailed result (faults_by self.new name.now ≡ faults_by self.old name.now) }
         ensures never_falls { faults_by self.old name.now ≤ faults_by self.new name.now }
         ensures told_stays { (other : List ℕ) → told_by self.new other ≡ told_by self.old other }
-        ensures others_stay { (other : List ℕ) → other ≢ name.now → faults_by self.new other ≡ faults_by self.old other }
+        ensures others_stay { (other : List ℕ) → other ≢ name.now
+            → faults_by self.new other ≡ faults_by self.old other }
         // A name that was added can be read, and no other.
         ensures known { IfSome (told_by self.old name.now) (λ _. result ≢ ReadEnd.Failed) }
-        ensures unknown { IfNone (told_by self.old name.now) ((result ≡ ReadEnd.Failed) ⊎ (result ≡ ReadEnd.OutOfMemory)) }
+        ensures unknown { IfNone (told_by self.old name.now) ((result ≡ ReadEnd.Failed)
+            ⊎ (result ≡ ReadEnd.OutOfMemory)) }
     {
         into.clear();
         let Some(bytes) = self.files.get(name) else {

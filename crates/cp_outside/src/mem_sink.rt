@@ -48,7 +48,13 @@ impl Model for MemSink {
 impl MemSink {
     /// An empty sink that takes `room` bytes without further memory.
     pub fn with_room(alloc: Global, room: usize) -> Result<MemSink, AllocError>
-        ensures { IfOk result (λ sink. sink ≡ record { written = []; faults = 0; calls = 0; room = room; planned = [] }) }
+        ensures { IfOk result (λ sink. sink ≡ record {
+          written = [];
+          faults = 0;
+          calls = 0;
+          room = room;
+          planned = [];
+        }) }
     {
         let written = Vec::with_capacity(alloc, room)?;
         Ok(MemSink {
@@ -63,7 +69,8 @@ impl MemSink {
     /// Lets the put of this number fail, counted from 1. It appends the first `keep` bytes of its piece, or all
     /// of it where it is shorter. Of two failures for one put the later one counts. At an `Err` all is as before.
     pub fn fail_at(&mut self, call: u64, keep: usize) -> Result<(), AllocError>
-        ensures planned { OnOk result (self.new ≡ record self.old { planned = record { call = call; keep = keep } ∷ self.old.planned }) }
+        ensures planned { OnOk result
+            (self.new ≡ record self.old { planned = record { call = call; keep = keep } ∷ self.old.planned }) }
         ensures refused { OnErr result (self.new ≡ self.old) }
     {
         self.planned.insert(0, PlannedFailure { call, keep })?;

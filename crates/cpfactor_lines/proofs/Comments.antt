@@ -7,6 +7,7 @@ use Rattle.std.proofs.lemmas.List.{append-nil, flat_map_more, take_more, length-
 use Rattle.std.proofs.lemmas.List.FromFn.{map-range_with_len_more}
 use Rattle.std.proofs.lemmas.Option.{slice_get_within, get_or_from_slice_get}
 use Rattle.exact_forms.specs.Triangles.{entry_in}
+use Rattle.exact_forms.proofs.Lists.{six_joined}
 use Rattle.symmetric_matrix.specs.Symmetric.{Symmetric, entry}
 use Rattle.symmetric_matrix.proofs.Runs.{range_more}
 use Rattle.text_lines.specs.Square.{full}
@@ -62,11 +63,8 @@ pub visit_made : (k count : ℕ) (v : Visit) (old a b d e new : List ℕ) → co
     → new ≡ e ++ vector_comments v.vectors → new ≡ old ++ visit_text k v
 unfolding visit_text
 visit_made k count v old a b d e new is f g h i j =
-    rw (j, i, h, g, f, is) (join old (comment (codes "visit" ∷ decimal k ∷ [])) (matrix_comments v.matrix)
+    rw (j, i, h, g, f, is) (six_joined old (comment (codes "visit" ∷ decimal k ∷ [])) (matrix_comments v.matrix)
     (comment (codes "minimum" ∷ signed_decimal v.mu ∷ [])) (comment (codes "vectors" ∷ decimal (length v.vectors) ∷ [])) (vector_comments v.vectors))
-  where
-    join : (old p q r s t : List ℕ) → ((((old ++ p) ++ q) ++ r) ++ s) ++ t ≡ old ++ ((((p ++ q) ++ r) ++ s) ++ t)
-    join old p q r s t = simp append_assoc
 
 -- ---- visits
 visits_push : (k : ℕ) (visits : List Visit) (v : Visit) → visits_text k (visits ++ v ∷ []) ≡ visits_text k visits ++ visit_text (k + length visits) v

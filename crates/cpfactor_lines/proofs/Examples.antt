@@ -1,7 +1,8 @@
 -- Command lines, as the definitions read them.
 use Rattle.std.proofs.Common.{◌≡◌, [], ◌∷◌, Ok, Err, refl}
 use Rattle.std.specs.Prelude.{codes}
-use Rattle.cpfactor_lines.specs.Arguments.{is_option, has_form, wanted, is_plain, plain_before, plain_argument, option_value, can_be_read, first_unread, is_complete, fault_place}
+use Rattle.cpfactor_lines.specs.Arguments.{is_option, has_form, wanted, is_plain, plain_before, plain_argument, option_value, can_be_read, first_unread}
+use Rattle.cpfactor_lines.specs.Arguments.{is_complete, fault_place}
 use Rattle.cpfactor_lines.specs.Commands.{Minimum, Copositive, Sample, request_in, read_as}
 
 -- the request of a good one

@@ -13,10 +13,12 @@ use Rattle.cp_outside.specs.declared.sink.PutEnd.TheVariants.{Done, Failed, OutO
 use Rattle.cpfactor_lines.specs.Sinks.{SinkShown, IsPut}
 
 abbrev pub shown_by : Option (List ℕ) → Option (List ℕ) → ℕ → ℕ → SinkShown
-shown_by told_before told_after faults_before faults_after = record { told_before = told_before; told_after = told_after; faults_before = faults_before; faults_after = faults_after }
+shown_by told_before told_after faults_before faults_after =
+    record { told_before = told_before; told_after = told_after; faults_before = faults_before; faults_after = faults_after }
 
 -- a front of a piece that stands behind what is written, and before what isn't yet
-front_behind : (old mid new : Option (List ℕ)) (a piece rest : List ℕ) → mid ≡ appended old a → AppendsFront mid new piece → AppendsFront old new (a ++ (piece ++ rest))
+front_behind : (old mid new : Option (List ℕ)) (a piece rest : List ℕ) → mid ≡ appended old a → AppendsFront mid new piece
+    → AppendsFront old new (a ++ (piece ++ rest))
 front_behind old mid new a piece rest is front = AppendsFront-after old mid new a (piece ++ rest) is (AppendsFront-more mid new piece rest front)
 
 -- nothing of a text
@@ -30,25 +32,31 @@ pieces_split f xs i d l =
     let whole : take i xs ++ drop i xs ≡ xs = take-append-drop i xs in
     ap (flat_map f) (sym whole) ∙ flat_map-append f (take i xs) (drop i xs) ∙ ap (λ t. flat_map f (take i xs) ++ flat_map f t) (drop-cons xs i d l)
 
-pub piece_more : {X : Type 0} (f : X → List ℕ) (xs : List X) (i : ℕ) (d : X) (old mid new : Option (List ℕ)) → i < length xs → mid ≡ appended old (flat_map f (take i xs)) → new ≡ appended mid (f (get_or xs i d))
+pub piece_more : {X : Type 0} (f : X → List ℕ) (xs : List X) (i : ℕ) (d : X) (old mid new : Option (List ℕ)) → i < length xs
+    → mid ≡ appended old (flat_map f (take i xs)) → new ≡ appended mid (f (get_or xs i d))
     → new ≡ appended old (flat_map f (take (i + 1) xs))
 piece_more f xs i d old mid new l is e =
     e ∙ ap (λ m. appended m (f (get_or xs i d))) is ∙ appended-append old (flat_map f (take i xs)) (f (get_or xs i d))
     ∙ ap (appended old) (flat_map_more f [] (take i xs) (get_or xs i d) ∙ ap (flat_map f) (sym (take_more xs i d l)))
 
-piece_failed : {X : Type 0} (f : X → List ℕ) (xs : List X) (i : ℕ) (d : X) (old mid new : Option (List ℕ)) → i < length xs → mid ≡ appended old (flat_map f (take i xs)) → AppendsFront mid new (f (get_or xs i d))
+piece_failed : {X : Type 0} (f : X → List ℕ) (xs : List X) (i : ℕ) (d : X) (old mid new : Option (List ℕ)) → i < length xs
+    → mid ≡ appended old (flat_map f (take i xs)) → AppendsFront mid new (f (get_or xs i d))
     → AppendsFront old new (flat_map f xs)
 piece_failed f xs i d old mid new l is front =
-    subst (AppendsFront old new) (sym (pieces_split f xs i d l)) (front_behind old mid new (flat_map f (take i xs)) (f (get_or xs i d)) (flat_map f (drop (suc i) xs)) is front)
+    subst (AppendsFront old new) (sym (pieces_split f xs i d l))
+    (front_behind old mid new (flat_map f (take i xs)) (f (get_or xs i d)) (flat_map f (drop (suc i) xs)) is front)
 
-pub pieces_done : {X : Type 0} (f : X → List ℕ) (xs : List X) (i : ℕ) (old mid : Option (List ℕ)) → length xs ≤ i → mid ≡ appended old (flat_map f (take i xs)) → mid ≡ appended old (flat_map f xs)
+pub pieces_done : {X : Type 0} (f : X → List ℕ) (xs : List X) (i : ℕ) (old mid : Option (List ℕ)) → length xs ≤ i → mid ≡ appended old (flat_map f (take i xs))
+    → mid ≡ appended old (flat_map f xs)
 pieces_done f xs i old mid le is = is ∙ ap (λ t. appended old (flat_map f t)) (take_all i xs le)
 
 -- a piece that was cut short cuts all of them short
-pub pieces_stopped : {X : Type 0} (f : X → List ℕ) (xs : List X) (i : ℕ) (d : X) (old mid new : Option (List ℕ)) (before between after : ℕ) (end : PutEnd) → (end ≡ Done → ⊥) → i < length xs → mid ≡ appended old (flat_map f (take i xs)) → between ≡ before
+pub pieces_stopped : {X : Type 0} (f : X → List ℕ) (xs : List X) (i : ℕ) (d : X) (old mid new : Option (List ℕ)) (before between after : ℕ) (end : PutEnd)
+    → (end ≡ Done → ⊥) → i < length xs → mid ≡ appended old (flat_map f (take i xs)) → between ≡ before
     → IsPut (f (get_or xs i d)) (shown_by mid new between after) end → IsPut (flat_map f xs) (shown_by old new before after) end
 pieces_stopped f xs i d old mid new before between after Done stopped l is quiet put = absurd (stopped refl)
-pieces_stopped f xs i d old mid new before between after Failed stopped l is quiet put = (subst (λ (b : ℕ). RoseOrFull b after) quiet put.0, piece_failed f xs i d old mid new l is put.1)
+pieces_stopped f xs i d old mid new before between after Failed stopped l is quiet put =
+    (subst (λ (b : ℕ). RoseOrFull b after) quiet put.0, piece_failed f xs i d old mid new l is put.1)
 pieces_stopped f xs i d old mid new before between after OutOfMemory stopped l is quiet put = (put.0 ∙ quiet, piece_failed f xs i d old mid new l is put.1)
 
 -- ---- the ends of puts
@@ -59,12 +67,14 @@ put_nothing text old before = (refl, AppendsFront-none old text)
 pub put_behind : (a b : List ℕ) (old mid new : Option (List ℕ)) (before between after : ℕ) (end : PutEnd) → mid ≡ appended old a → between ≡ before
     → IsPut b (shown_by mid new between after) end → IsPut (a ++ b) (shown_by old new before after) end
 put_behind a b old mid new before between after Done is quiet put = (put.0 ∙ quiet, put.1 ∙ ap (λ m. appended m b) is ∙ appended-append old a b)
-put_behind a b old mid new before between after Failed is quiet put = (subst (λ (b : ℕ). RoseOrFull b after) quiet put.0, AppendsFront-after old mid new a b is put.1)
+put_behind a b old mid new before between after Failed is quiet put =
+    (subst (λ (b : ℕ). RoseOrFull b after) quiet put.0, AppendsFront-after old mid new a b is put.1)
 put_behind a b old mid new before between after OutOfMemory is quiet put = (put.0 ∙ quiet, AppendsFront-after old mid new a b is put.1)
 
 -- what one put says
 pub put_is : (text bytes : List ℕ) (old new : Option (List ℕ)) (before after : ℕ) (end : PutEnd) → bytes ≡ text
-    → OnDone end (new ≡ appended old bytes) → OnPutFailed end (AppendsFront old new bytes) → OnPutOutOfMemory end (new ≡ old) → OnPutFailed end (RoseOrFull before after) → UnlessPutFailed end (after ≡ before)
+    → OnDone end (new ≡ appended old bytes) → OnPutFailed end (AppendsFront old new bytes) → OnPutOutOfMemory end (new ≡ old)
+    → OnPutFailed end (RoseOrFull before after) → UnlessPutFailed end (after ≡ before)
     → IsPut text (shown_by old new before after) end
 put_is text bytes old new before after Done same done front nothing rose quiet = (quiet, done ∙ ap (appended old) same)
 put_is text bytes old new before after Failed same done front nothing rose quiet = (rose, subst (AppendsFront old new) same front)
@@ -72,9 +82,11 @@ put_is text bytes old new before after OutOfMemory same done front nothing rose 
 
 -- the same where the put was cut short and more was to follow
 pub put_stopped : (text bytes rest : List ℕ) (old new : Option (List ℕ)) (before after : ℕ) (end : PutEnd) → (end ≡ Done → ⊥) → bytes ≡ text
-    → OnPutFailed end (AppendsFront old new bytes) → OnPutOutOfMemory end (new ≡ old) → OnPutFailed end (RoseOrFull before after) → UnlessPutFailed end (after ≡ before) → IsPut (text ++ rest) (shown_by old new before after) end
+    → OnPutFailed end (AppendsFront old new bytes) → OnPutOutOfMemory end (new ≡ old) → OnPutFailed end (RoseOrFull before after)
+    → UnlessPutFailed end (after ≡ before) → IsPut (text ++ rest) (shown_by old new before after) end
 put_stopped text bytes rest old new before after Done stopped same front nothing rose quiet = absurd (stopped refl)
-put_stopped text bytes rest old new before after Failed stopped same front nothing rose quiet = (rose, AppendsFront-more old new text rest (subst (AppendsFront old new) same front))
+put_stopped text bytes rest old new before after Failed stopped same front nothing rose quiet =
+    (rose, AppendsFront-more old new text rest (subst (AppendsFront old new) same front))
 put_stopped text bytes rest old new before after OutOfMemory stopped same front nothing rose quiet = (quiet, front_unchanged old new (text ++ rest) nothing)
 
 -- ---- a text that is put front by front

@@ -7,25 +7,24 @@ use Rattle.std.specs.List.{join_with_byte}
 use Rattle.std.proofs.lemmas.List.{append-nil, map_more, take_all, length-take, length-map}
 use Rattle.cpfactor_lines.specs.declared.line.Word.{Word}
 use Rattle.text_lines.specs.Spelling.{spaced_word}
+use Rattle.text_lines.proofs.Written.{join_push}
 use Rattle.cpfactor_lines.specs.Lines.{line, word_text, words_text, path_word, digits_text}
 
-join_push : (ws : List (List ℕ)) (w : List ℕ) → join_with_byte 32 (ws ++ w ∷ []) ≡ join_with_byte 32 ws ++ spaced_word (length ws) w
-unfolding spaced_word
-join_push [] w = refl
-join_push (v ∷ []) w = refl
-join_push (v ∷ u ∷ ws) w = ap (λ t. v ++ 32 ∷ t) (join_push (u ∷ ws) w) ∙ sym (append_assoc v (32 ∷ join_with_byte 32 (u ∷ ws)) (spaced_word (length (u ∷ ws)) w))
-
-pub word_more : (words : List Word) (i : ℕ) (d : Word) (old mid new : List ℕ) → i < length words → mid ≡ old ++ join_with_byte 32 (words_text (take i words)) → new ≡ mid ++ spaced_word i (word_text (get_or words i d))
+pub word_more : (words : List Word) (i : ℕ) (d : Word) (old mid new : List ℕ) → i < length words → mid ≡ old ++ join_with_byte 32 (words_text (take i words))
+    → new ≡ mid ++ spaced_word i (word_text (get_or words i d))
     → new ≡ old ++ join_with_byte 32 (words_text (take (i + 1) words))
 word_more words i d old mid new lt e f =
     let w = get_or words i d in
     let len : length (words_text (take i words)) ≡ i = length-map (take i words) word_text ∙ (rw length-take (omega arith)) in
     let more : words_text (take (i + 1) words) ≡ words_text (take i words) ++ word_text (get_or words i d) ∷ [] = map_more word_text words i d lt in
-    let joined : join_with_byte 32 (words_text (take (i + 1) words)) ≡ join_with_byte 32 (words_text (take i words)) ++ spaced_word i (word_text (get_or words i d)) =
-    ap (join_with_byte 32) more ∙ join_push (words_text (take i words)) (word_text (get_or words i d)) ∙ ap (λ k. join_with_byte 32 (words_text (take i words)) ++ spaced_word k (word_text (get_or words i d))) len in
+    let joined : join_with_byte 32 (words_text (take (i + 1) words)) ≡ join_with_byte 32 (words_text (take i words))
+    ++ spaced_word i (word_text (get_or words i d)) =
+    ap (join_with_byte 32) more ∙ join_push (words_text (take i words)) (word_text (get_or words i d))
+    ∙ ap (λ k. join_with_byte 32 (words_text (take i words)) ++ spaced_word k (word_text (get_or words i d))) len in
     rw (f, e, joined) (append_assoc old (join_with_byte 32 (words_text (take i words))) (spaced_word i (word_text (get_or words i d))))
 
-pub words_end : (words : List Word) (i : ℕ) (old mid : List ℕ) → length words ≤ i → mid ≡ old ++ join_with_byte 32 (words_text (take i words)) → mid ≡ old ++ join_with_byte 32 (words_text words)
+pub words_end : (words : List Word) (i : ℕ) (old mid : List ℕ) → length words ≤ i → mid ≡ old ++ join_with_byte 32 (words_text (take i words))
+    → mid ≡ old ++ join_with_byte 32 (words_text words)
 words_end words i old mid le e = let all = take_all i words le in rw e (rw all refl)
 
 pub words_start : (words : List Word) (old : List ℕ) → old ≡ old ++ join_with_byte 32 (words_text (take 0 words))
@@ -38,24 +37,32 @@ unfolding line
 line_of_spelled words old mid new e f = rw (f, e) (append_assoc old (join_with_byte 32 words) (10 ∷ []))
 
 -- ---- numbers behind words
-pub number_more : (words : List Word) (xs : List ℕ) (k : ℕ) (old mid new : List ℕ) → k < length xs → mid ≡ old ++ join_with_byte 32 (words_text words ++ map decimal (take k xs))
+pub number_more : (words : List Word) (xs : List ℕ) (k : ℕ) (old mid new : List ℕ) → k < length xs
+    → mid ≡ old ++ join_with_byte 32 (words_text words ++ map decimal (take k xs))
     → new ≡ mid ++ spaced_word (length words + k) (decimal (get_or xs k 0)) → new ≡ old ++ join_with_byte 32 (words_text words ++ map decimal (take (k + 1) xs))
 number_more words xs k old mid new lt e f =
     let front = words_text words ++ map decimal (take k xs) in
-    let len : length front ≡ length words + k = length-append (words_text words) (map decimal (take k xs)) ∙ ap₂ (λ (a : ℕ) (b : ℕ). a + b) (length-map words word_text) (length-map (take k xs) decimal ∙ (rw length-take (omega arith))) in
+    let len : length front ≡ length words + k = length-append (words_text words) (map decimal (take k xs))
+    ∙ ap₂ (λ (a : ℕ) (b : ℕ). a + b) (length-map words word_text) (length-map (take k xs) decimal ∙ (rw length-take (omega arith))) in
     let more : words_text words ++ map decimal (take (k + 1) xs) ≡ front ++ decimal (get_or xs k 0) ∷ [] =
-    ap (λ t. words_text words ++ t) (map_more decimal xs k 0 lt) ∙ sym (append_assoc (words_text words) (map decimal (take k xs)) (decimal (get_or xs k 0) ∷ [])) in
-    let joined : join_with_byte 32 (words_text words ++ map decimal (take (k + 1) xs)) ≡ join_with_byte 32 front ++ spaced_word (length words + k) (decimal (get_or xs k 0)) =
-    ap (join_with_byte 32) more ∙ join_push front (decimal (get_or xs k 0)) ∙ ap (λ n. join_with_byte 32 front ++ spaced_word n (decimal (get_or xs k 0))) len in
+    ap (λ t. words_text words ++ t) (map_more decimal xs k 0 lt)
+    ∙ sym (append_assoc (words_text words) (map decimal (take k xs)) (decimal (get_or xs k 0) ∷ [])) in
+    let joined : join_with_byte 32 (words_text words ++ map decimal (take (k + 1) xs)) ≡ join_with_byte 32 front
+    ++ spaced_word (length words + k) (decimal (get_or xs k 0)) =
+    ap (join_with_byte 32) more ∙ join_push front (decimal (get_or xs k 0))
+    ∙ ap (λ n. join_with_byte 32 front ++ spaced_word n (decimal (get_or xs k 0))) len in
     rw (f, e, joined) (append_assoc old (join_with_byte 32 front) (spaced_word (length words + k) (decimal (get_or xs k 0))))
 
-pub numbers_start : (words : List Word) (xs : List ℕ) (old new : List ℕ) → new ≡ old ++ join_with_byte 32 (words_text words) → new ≡ old ++ join_with_byte 32 (words_text words ++ map decimal (take 0 xs))
+pub numbers_start : (words : List Word) (xs : List ℕ) (old new : List ℕ) → new ≡ old ++ join_with_byte 32 (words_text words)
+    → new ≡ old ++ join_with_byte 32 (words_text words ++ map decimal (take 0 xs))
 numbers_start words xs old new e = e ∙ ap (λ t. old ++ join_with_byte 32 t) (sym (append-nil (words_text words)))
 
-pub numbers_end : (words : List Word) (xs : List ℕ) (k : ℕ) (old mid new : List ℕ) → length xs ≤ k → mid ≡ old ++ join_with_byte 32 (words_text words ++ map decimal (take k xs)) → new ≡ mid ++ 10 ∷ []
+pub numbers_end : (words : List Word) (xs : List ℕ) (k : ℕ) (old mid new : List ℕ) → length xs ≤ k
+    → mid ≡ old ++ join_with_byte 32 (words_text words ++ map decimal (take k xs)) → new ≡ mid ++ 10 ∷ []
     → new ≡ old ++ line (words_text words ++ map decimal xs)
 numbers_end words xs k old mid new le e f =
-    line_of_spelled (words_text words ++ map decimal xs) old mid new (e ∙ ap (λ t. old ++ join_with_byte 32 (words_text words ++ map decimal t)) (take_all k xs le)) f
+    line_of_spelled (words_text words ++ map decimal xs) old mid new (e
+    ∙ ap (λ t. old ++ join_with_byte 32 (words_text words ++ map decimal t)) (take_all k xs le)) f
 
 -- ---- paths
 pub no_digits : (path : Path) (n : ℕ) (old new : List ℕ) → n ≡ 0 → n ≡ length path → new ≡ old ++ 45 ∷ [] → new ≡ old ++ path_word path
@@ -72,10 +79,12 @@ pub digits_start : (path : Path) (old : List ℕ) → old ≡ old ++ digits_text
 unfolding digits_text
 digits_start path old = sym (append-nil old)
 
-pub digit_more : (path : Path) (k : ℕ) (old mid new : List ℕ) → k < length path → mid ≡ old ++ digits_text (take k path) → new ≡ mid ++ (48 + digit_of (digit_at path k)) ∷ [] → new ≡ old ++ digits_text (take (k + 1) path)
+pub digit_more : (path : Path) (k : ℕ) (old mid new : List ℕ) → k < length path → mid ≡ old ++ digits_text (take k path)
+    → new ≡ mid ++ (48 + digit_of (digit_at path k)) ∷ [] → new ≡ old ++ digits_text (take (k + 1) path)
 unfolding digits_text
 digit_more path k old mid new lt e f =
-    let more : map (λ side. 48 + digit_of side) (take (k + 1) path) ≡ map (λ side. 48 + digit_of side) (take k path) ++ (48 + digit_of (get_or path k false)) ∷ [] = map_more (λ side. 48 + digit_of side) path k false lt in
+    let more : map (λ side. 48 + digit_of side) (take (k + 1) path) ≡ map (λ side. 48 + digit_of side) (take k path)
+    ++ (48 + digit_of (get_or path k false)) ∷ [] = map_more (λ side. 48 + digit_of side) path k false lt in
     rw (f, e, more) (append_assoc old (map (λ side. 48 + digit_of side) (take k path)) ((48 + digit_of (digit_at path k)) ∷ []))
 
 pub digits_end : (path : Path) (k : ℕ) (old mid : List ℕ) → length path ≤ k → mid ≡ old ++ digits_text (take k path) → mid ≡ old ++ digits_text path

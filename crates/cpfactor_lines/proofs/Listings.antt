@@ -26,7 +26,8 @@ unfolding term_line
 term_words_are term num den xs n d v =
     ap₂ (λ (word : List ℕ) (xs : List ℕ). line (word ∷ map decimal xs)) (ap₂ (λ (n : ℤ) (d : ℤ). signed_decimal n ++ 47 ∷ signed_decimal d) n d) v
 
-pub vector_line_at : (vectors : List (List ℕ)) (k : ℕ) (item xs : List ℕ) → slice_get vectors k ≡ Some item → xs ≡ item → line (map decimal xs) ≡ slice_index_or (map vector_line vectors) k []
+pub vector_line_at : (vectors : List (List ℕ)) (k : ℕ) (item xs : List ℕ) → slice_get vectors k ≡ Some item → xs ≡ item
+    → line (map decimal xs) ≡ slice_index_or (map vector_line vectors) k []
 unfolding vector_line
 vector_line_at vectors k item xs is v = ap (λ (xs : List ℕ). line (map decimal xs)) v ∙ item_line vector_line vectors k item is
 
@@ -35,7 +36,8 @@ pub flat_map-map : {X : Type 0} (f : X → List ℕ) (xs : List X) → flat_map 
 flat_map-map f [] = refl
 flat_map-map f (x ∷ xs) = ap (λ t. f x ++ t) (flat_map-map f xs)
 
-pub factorization_lines : (n : ℕ) (terms : List WeightedVector) (head : List ℕ) → head ≡ factored_text n (length terms) → head ++ flat_map (λ (l : List ℕ). l) (map term_line terms) ≡ factorization_text n terms
+pub factorization_lines : (n : ℕ) (terms : List WeightedVector) (head : List ℕ) → head ≡ factored_text n (length terms)
+    → head ++ flat_map (λ (l : List ℕ). l) (map term_line terms) ≡ factorization_text n terms
 unfolding factorization_text
 factorization_lines n terms head is = ap₂ (λ (a : List ℕ) (b : List ℕ). a ++ b) is (flat_map-map term_line terms)
 
@@ -50,7 +52,8 @@ terms_appended n terms count k old mid new is all e f =
 abbrev pub count_line : ℕ → List ℕ
 count_line count = line (codes "vectors" ∷ decimal count ∷ [])
 
-pub vectors_lines : (vectors : List (List ℕ)) (head : List ℕ) → head ≡ count_line (length vectors) → head ++ flat_map (λ (l : List ℕ). l) (map vector_line vectors) ≡ vectors_text vectors
+pub vectors_lines : (vectors : List (List ℕ)) (head : List ℕ) → head ≡ count_line (length vectors)
+    → head ++ flat_map (λ (l : List ℕ). l) (map vector_line vectors) ≡ vectors_text vectors
 vectors_lines vectors head is = ap₂ (λ (a : List ℕ) (b : List ℕ). a ++ b) is (flat_map-map vector_line vectors)
 
 pub minimum_lines : (d m : ℤ) (vectors : List (List ℕ)) (head : List ℕ) → head ≡ least_text d m → head ++ vectors_text vectors ≡ minimum_text d m vectors

@@ -29,7 +29,8 @@ pub commands_are_short : list_all is_short commands ≡ true
 unfolding is_option
 commands_are_short = refl
 
-near_fault : (fault : Option ℕ) (request : Request) (position : ℕ) → ((place : ℕ) → fault ≡ Some place → place ≤ 30) → request_or_fault fault request ≡ Err position → position ≤ 32
+near_fault : (fault : Option ℕ) (request : Request) (position : ℕ) → ((place : ℕ) → fault ≡ Some place → place ≤ 30)
+    → request_or_fault fault request ≡ Err position → position ≤ 32
 near_fault None request position near e = absurd (cc)
 near_fault (Some place) request position near e = let same : place + 2 ≡ position = cc in omega (arith, same, near place refl)
 

@@ -107,9 +107,14 @@ pub searching : (m : Mode) (depth : ℕ) → IsQuestion (IsSearched m depth) (Is
 searching m depth = record { is_due = search_is_due m depth; once = search_due_once m depth; status = search_status m depth }
 
 pub quotient_of : (a : RationalMatrix) (s : Symmetric) (d : ℤ) → cleared_of a ≡ (s, d) → pos 1 ≤ℤ d → IsCleared a s (nat_abs d) → IsQuotient a
-quotient_of a s d e positive is = record { positive = subst (λ (p : Symmetric × ℤ). pos 1 ≤ℤ p.1) (sym e) positive; cleared = subst (λ (p : Symmetric × ℤ). IsCleared a p.0 (nat_abs p.1)) (sym e) is }
+quotient_of a s d e positive is =
+    record {
+      positive = subst (λ (p : Symmetric × ℤ). pos 1 ≤ℤ p.1) (sym e) positive;
+      cleared = subst (λ (p : Symmetric × ℤ). IsCleared a p.0 (nat_abs p.1)) (sym e) is;
+    }
 
-pub found_follows : (m : Mode) (depth : ℕ) (a : RationalMatrix) (s : Symmetric) (d : ℤ) → answer is_placed_owed (clear_ops a) (cleared_of a) ≡ Ok (s, d) → pos 1 ≤ℤ d → IsCleared a s (nat_abs d) → (e : Ended) (text : List ℕ) → IsFound m depth s d e text → IsSearched m depth a e text
+pub found_follows : (m : Mode) (depth : ℕ) (a : RationalMatrix) (s : Symmetric) (d : ℤ) → answer is_placed_owed (clear_ops a) (cleared_of a) ≡ Ok (s, d)
+    → pos 1 ≤ℤ d → IsCleared a s (nat_abs d) → (e : Ended) (text : List ℕ) → IsFound m depth s d e text → IsSearched m depth a e text
 found_follows m depth a s d cleared positive is e text h =
     let clear = none_of_ok is_placed_owed (clear_ops a) (cleared_of a) (s, d) cleared in
     inr (clear.0, quotient_of a s d clear.1 positive is, subst (λ (p : Symmetric × ℤ). IsFound m depth p.0 p.1 e text) (sym clear.1) h)
@@ -133,7 +138,8 @@ module _ (answers : RationalMatrix → Ended → List ℕ → Type 0) (due : Rat
   bytes_is_due bytes e text (inr (a, is, h)) = inr (a, is, Q.is_due a e text h)
 
   pub bytes_due_once : (bytes : List ℕ) (e f : Ended) → IsBytesDue due bytes e → IsBytesDue due bytes f → e ≡ f
-  bytes_due_once bytes e f (inl (fault, is, ended)) (inl (fault', is', ended')) = ended ∙ ap (λ (t : TextFault). ending (cause.MatrixFault t)) (one_fault bytes fault fault' is is') ∙ sym ended'
+  bytes_due_once bytes e f (inl (fault, is, ended)) (inl (fault', is', ended')) = ended
+      ∙ ap (λ (t : TextFault). ending (cause.MatrixFault t)) (one_fault bytes fault fault' is is') ∙ sym ended'
   bytes_due_once bytes e f (inl (fault, is, ended)) (inr (a, text, h)) = absurd (text_or_fault bytes a fault text is)
   bytes_due_once bytes e f (inr (a, text, h)) (inl (fault, is, ended)) = absurd (text_or_fault bytes a fault text is)
   bytes_due_once bytes e f (inr (a, is, h)) (inr (b, is', k)) = Q.once b e f (subst (λ (m : RationalMatrix). due m e) (one_matrix bytes a b is is') h) k

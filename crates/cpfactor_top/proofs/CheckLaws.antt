@@ -82,14 +82,17 @@ cause_of_refusal Accepted r = absurd r
 cause_of_refusal other r = refl
 
 module _ (a : RationalMatrix) (v : Verdict) where
-  answer_by : (o : Option Checked) (c : Checked) → ((r : Checked) → o ≡ Some r → IsRefusal r) → first_refusal (checks a v) ≡ o → c ≡ answer_of o → (c ≡ Accepted → IsRight a v)
+  answer_by : (o : Option Checked) (c : Checked) → ((r : Checked) → o ≡ Some r → IsRefusal r) → first_refusal (checks a v) ≡ o → c ≡ answer_of o
+      → (c ≡ Accepted → IsRight a v)
       → IsVerdictAnswer a v (ending (checked_cause c)) (checked_text c)
   answer_by None c are first e right =
-      subst (λ (k : Checked). IsVerdictAnswer a v (ending (checked_cause k)) (checked_text k)) (sym e) (inr (record { due = (first, refl); right = right e; written = refl }))
+      subst (λ (k : Checked). IsVerdictAnswer a v (ending (checked_cause k)) (checked_text k)) (sym e)
+      (inr (record { due = (first, refl); right = right e; written = refl }))
   answer_by (Some d) c are first e right =
       subst (λ (k : Checked). IsVerdictAnswer a v (ending (checked_cause k)) (checked_text k)) (sym e)
       (subst (λ (cause : Cause). IsVerdictAnswer a v (ending cause) (checked_text d)) (sym (cause_of_refusal d (are d refl)))
       (inl (record { due = record { refusal = d; first = first; ended = refl }; refuses = are d refl; written = refl })))
 
-  pub verdict_answer : (c : Checked) → c ≡ answer_of (first_refusal (checks a v)) → (c ≡ Accepted → IsRight a v) → IsVerdictAnswer a v (ending (checked_cause c)) (checked_text c)
+  pub verdict_answer : (c : Checked) → c ≡ answer_of (first_refusal (checks a v)) → (c ≡ Accepted → IsRight a v)
+      → IsVerdictAnswer a v (ending (checked_cause c)) (checked_text c)
   verdict_answer c e right = answer_by (first_refusal (checks a v)) c (λ r first. refusal_is (checks a v) r (all_refuse a v) first) refl e right

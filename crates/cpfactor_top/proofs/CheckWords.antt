@@ -32,27 +32,37 @@ one_check_position words p q (inr ((r, is, other), first)) (inl k) = absurd (not
 one_check_position words p q (inr (h, first)) (inr (k, first')) = first ∙ sym first'
 
 module _ (words : List (List ℕ)) (files : List ℕ → FileShown) where
-  pub check_is_answer : (file proof : List ℕ) → IsCommandLine words (Check file proof) → (e : Ended) (text : List ℕ) → IsCheckAnswer words files e text → IsAnswer words files e text
+  pub check_is_answer : (file proof : List ℕ) → IsCommandLine words (Check file proof) → (e : Ended) (text : List ℕ) → IsCheckAnswer words files e text
+      → IsAnswer words files e text
   check_is_answer file proof asked e text (inl ((position, at, ended), written)) = absurd (no_check_usage words file proof position asked at)
   check_is_answer file proof asked e text (inr (f, p, is, h)) = inr (Check f p, is, h)
 
-  pub other_refused : (r : Request) → IsCommandLine words r → IsOther r → (shown : SinkShown) (given : Ended) → EndsBy (IsOnly (ending (Usage 1)) (usage_text 1)) shown given → EndsBy (IsCheckAnswer words files) shown given
-  other_refused r is other shown given ends = ends_by_only (IsCheckAnswer words files) (ending (Usage 1)) (usage_text 1) shown given (inl ((1, inr ((r, is, other), refl), refl), refl)) ends
+  pub other_refused : (r : Request) → IsCommandLine words r → IsOther r → (shown : SinkShown) (given : Ended)
+      → EndsBy (IsOnly (ending (Usage 1)) (usage_text 1)) shown given → EndsBy (IsCheckAnswer words files) shown given
+  other_refused r is other shown given ends =
+      ends_by_only (IsCheckAnswer words files) (ending (Usage 1)) (usage_text 1) shown given (inl ((1, inr ((r, is, other), refl), refl), refl)) ends
 
   pub check_status : (e : Ended) (text : List ℕ) → IsCheckAnswer words files e text → HasStatus e
   check_status e text (inl ((position, at, ended), written)) = subst HasStatus (sym ended) (inl refl)
   check_status e text (inr (f, p, is, h)) = (request_settled files (λ name. (files name).told) (λ name. refl) (Check f p)).status e text h
 
-  pub check_usage_yields : (shown : SinkShown) (given : Ended) (position : ℕ) → IsCheckUsageAt words position → EndsBy (IsCheckAnswer words files) shown given → YieldsTo (ending (Usage position)) given
+  pub check_usage_yields : (shown : SinkShown) (given : Ended) (position : ℕ) → IsCheckUsageAt words position → EndsBy (IsCheckAnswer words files) shown given
+      → YieldsTo (ending (Usage position)) given
   check_usage_yields shown given position at ends = ends_yield (IsCheckAnswer words files) shown (ending (Usage position)) given by ends
     where
       by : (text : List ℕ) → IsCheckAnswer words files given text → given ≡ ending (Usage position)
       by text (inl ((other, at', ended), written)) = ended ∙ ap (λ (p : ℕ). ending (Usage p)) (one_check_position words other position at' at)
       by text (inr (f, p, is, h)) = absurd (no_check_usage words f p position is at)
 
-  pub check_yields : (told : List ℕ → Option (List ℕ)) (shown : SinkShown) (given e : Ended) → ((name : List ℕ) → (files name).told ≡ told name) → EndsBy (IsCheckAnswer words files) shown given → IsCheckDue words told e → YieldsToReading e given
+  pub check_yields : (told : List ℕ → Option (List ℕ)) (shown : SinkShown) (given e : Ended) → ((name : List ℕ) → (files name).told ≡ told name)
+      → EndsBy (IsCheckAnswer words files) shown given → IsCheckDue words told e → YieldsToReading e given
   check_yields told shown given e same ends (file, proof, asked, due) =
-      words_yield words files told shown given e same (ends_by_follows (IsCheckAnswer words files) (IsAnswer words files) shown (check_is_answer file proof asked) given ends) (Check file proof, asked, due)
+      words_yield words files told shown given e same
+      (ends_by_follows (IsCheckAnswer words files) (IsAnswer words files) shown (check_is_answer file proof asked) given ends) (
+        Check file proof,
+        asked,
+        due,
+      )
 
 -- ---- what the checker is told to refuse
 fine_other : (c : Checked) → Fine ≡ Proof c → ⊥
@@ -86,7 +96,8 @@ module _ (checked : Checked) where
   by_other : (cause : Cause) (e : Ended) → e ≡ ending cause → (cause ≡ Proof checked → ⊥) → e.cause ≡ Proof checked → IsRefusal checked
   by_other cause e is other same = absurd (other (sym (ap (λ (x : Ended). x.cause) is) ∙ same))
 
-  file_refusal : (kind : FileKind) (answers : List ℕ → Ended → List ℕ → Type 0) → ((bytes : List ℕ) (e : Ended) (text : List ℕ) → answers bytes e text → e.cause ≡ Proof checked → IsRefusal checked)
+  file_refusal : (kind : FileKind) (answers : List ℕ → Ended → List ℕ → Type 0)
+      → ((bytes : List ℕ) (e : Ended) (text : List ℕ) → answers bytes e text → e.cause ≡ Proof checked → IsRefusal checked)
       → (file : FileShown) (e : Ended) (text : List ℕ) → IsFileAnswer kind answers file e text → e.cause ≡ Proof checked → IsRefusal checked
   file_refusal kind answers given file e text (inl (bytes, read, h)) same = given bytes e text h same
   file_refusal kind answers given file e text (inr (inl long)) same = by_other TooLong e long.ended (long_other checked) same
@@ -98,16 +109,19 @@ module _ (checked : Checked) where
       subst IsRefusal (same_check h.due.refusal checked (sym (ap (λ (x : Ended). x.cause) h.due.ended) ∙ same)) h.refuses
   proof_refusal a bytes e text (inr (v, is, inr h)) same = by_other Fine e h.due.1 (fine_other checked) same
 
-  matrix_refusal : (proof : FileShown) (bytes : List ℕ) (e : Ended) (text : List ℕ) → IsBytesAnswer (λ a. IsFileAnswer proof_file (IsProofAnswer a) proof) bytes e text → e.cause ≡ Proof checked → IsRefusal checked
+  matrix_refusal : (proof : FileShown) (bytes : List ℕ) (e : Ended) (text : List ℕ)
+      → IsBytesAnswer (λ a. IsFileAnswer proof_file (IsProofAnswer a) proof) bytes e text → e.cause ≡ Proof checked → IsRefusal checked
   matrix_refusal proof bytes e text (inl ((fault, is, ended), written)) same = by_other (MatrixFault fault) e ended (matrix_other fault checked) same
   matrix_refusal proof bytes e text (inr (a, is, h)) same = file_refusal proof_file (IsProofAnswer a) (proof_refusal a) proof e text h same
 
-  answer_refusal : (words : List (List ℕ)) (files : List ℕ → FileShown) (e : Ended) (text : List ℕ) → IsCheckAnswer words files e text → e.cause ≡ Proof checked → IsRefusal checked
+  answer_refusal : (words : List (List ℕ)) (files : List ℕ → FileShown) (e : Ended) (text : List ℕ) → IsCheckAnswer words files e text → e.cause ≡ Proof checked
+      → IsRefusal checked
   answer_refusal words files e text (inl ((position, at, ended), written)) same = by_other (Usage position) e ended (usage_other position checked) same
   answer_refusal words files e text (inr (f, p, is, h)) same =
       file_refusal matrix_file (IsBytesAnswer (λ a. IsFileAnswer proof_file (IsProofAnswer a) (files p))) (matrix_refusal (files p)) (files f) e text h same
 
-  pub check_refusal : (words : List (List ℕ)) (files : List ℕ → FileShown) (shown : SinkShown) (given : Ended) → EndsBy (IsCheckAnswer words files) shown given → given.cause ≡ Proof checked → IsRefusal checked
+  pub check_refusal : (words : List (List ℕ)) (files : List ℕ → FileShown) (shown : SinkShown) (given : Ended) → EndsBy (IsCheckAnswer words files) shown given
+      → given.cause ≡ Proof checked → IsRefusal checked
   check_refusal words files shown given (inl g) same = answer_refusal words files given g.text g.answer same
   check_refusal words files shown given (inr (inl f)) same = absurd (write_other checked (sym (ap (λ (e : Ended). e.cause) f.fault) ∙ same))
   check_refusal words files shown given (inr (inr (inl m))) same = absurd (memory_other checked (sym (ap (λ (e : Ended). e.cause) m.memory) ∙ same))

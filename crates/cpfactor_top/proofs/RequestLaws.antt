@@ -17,7 +17,8 @@ use Rattle.cpfactor_top.specs.Checking.{proof_file, IsProofAnswer, IsProofDue}
 use Rattle.cpfactor_top.specs.Solving.{IsSolved, IsSolveDue}
 use Rattle.cpfactor_top.specs.Searching.{IsSearched, IsSearchDue}
 use Rattle.cpfactor_top.specs.Sampling.{IsSampled, IsSampleDue}
-use Rattle.cpfactor_top.specs.Answers.{file_of, files_of, answers_of_matrix, due_of_matrix, IsGivenAnswer, IsGivenDue, answers_of, due_of, IsAnswer, IsRequestDue, IsBytesAnswer, IsBytesDue, YieldsTo, YieldsToReading}
+use Rattle.cpfactor_top.specs.Answers.{file_of, files_of, answers_of_matrix, due_of_matrix, IsGivenAnswer, IsGivenDue, answers_of, due_of, IsAnswer}
+use Rattle.cpfactor_top.specs.Answers.{IsRequestDue, IsBytesAnswer, IsBytesDue, YieldsTo, YieldsToReading}
 use Rattle.cpfactor_top.proofs.AnswerLaws.{IsQuestion, solving, searching, one_matrix, one_fault, text_or_fault}
 use Rattle.cpfactor_top.proofs.FileLaws.{Encloses, IsSettled, file_settled, file_enclosed, file_follows}
 use Rattle.cpfactor_top.proofs.CheckLaws.{proof_settled}
@@ -45,19 +46,22 @@ file_among (Sample n k first workers) name own is all = absurd (no_name own is)
 pub proof_among : (file proof name : List ℕ) → All (λ f. name ≢ f) (files_of (Check file proof)) → name ≢ proof
 proof_among file proof name all = All-head (λ (f : List ℕ). name ≢ f) proof [] (All-tail (λ (f : List ℕ). name ≢ f) file (proof ∷ []) all)
 
-question_settled : (answers : RationalMatrix → Ended → List ℕ → Type 0) (due : RationalMatrix → Ended → Type 0) → IsQuestion answers due → (a : RationalMatrix) → IsSettled (answers a) (due a)
+question_settled : (answers : RationalMatrix → Ended → List ℕ → Type 0) (due : RationalMatrix → Ended → Type 0) → IsQuestion answers due → (a : RationalMatrix)
+    → IsSettled (answers a) (due a)
 question_settled answers due Q a = record {
   given = λ e g text d h. inr (Q.once a g e (Q.is_due a g text h) d);
   status = λ e text h. Q.status a e (Q.is_due a e text h);
 }
 
-module _ (answers : RationalMatrix → Ended → List ℕ → Type 0) (due : RationalMatrix → Ended → Type 0) (settled : (a : RationalMatrix) → IsSettled (answers a) (due a)) (bytes : List ℕ) where
+module _ (answers : RationalMatrix → Ended → List ℕ → Type 0) (due : RationalMatrix → Ended → Type 0) (settled : (a : RationalMatrix)
+    → IsSettled (answers a) (due a)) (bytes : List ℕ) where
   bytes_given : (e g : Ended) (text : List ℕ) → IsBytesDue due bytes e → IsBytesAnswer answers bytes g text → EndsWith ReadFault g ⊎ (g ≡ e)
   bytes_given e g text (inl (fault, is, ended)) (inl ((other, is', ended'), written)) =
       inr (ended' ∙ ap (λ (t : TextFault). ending (MatrixFault t)) (one_fault bytes other fault is' is) ∙ sym ended)
   bytes_given e g text (inl (fault, is, ended)) (inr (a, is_text, h)) = absurd (text_or_fault bytes a fault is_text is)
   bytes_given e g text (inr (a, is_text, d)) (inl ((fault, is, ended), written)) = absurd (text_or_fault bytes a fault is_text is)
-  bytes_given e g text (inr (a, is, d)) (inr (b, is', h)) = (settled a).given e g text d (subst (λ (m : RationalMatrix). answers m g text) (one_matrix bytes b a is' is) h)
+  bytes_given e g text (inr (a, is, d)) (inr (b, is', h)) =
+      (settled a).given e g text d (subst (λ (m : RationalMatrix). answers m g text) (one_matrix bytes b a is' is) h)
 
   bytes_have_status : (e : Ended) (text : List ℕ) → IsBytesAnswer answers bytes e text → HasStatus e
   bytes_have_status e text (inl ((fault, is, ended), written)) = subst HasStatus (sym ended) (inl refl)
@@ -74,9 +78,11 @@ module _ (files : List ℕ → FileShown) (told : List ℕ → Option (List ℕ)
   matrix_settled (Sample n k first workers) a = question_settled (IsSampled n k first) (IsSampleDue n k first) (sampling n k first) a
   matrix_settled (Copositive file depth workers) a = question_settled (IsSearched Mode.Sign depth) (IsSearchDue Mode.Sign depth) (searching Mode.Sign depth) a
 
-  file_request_settled : (file : List ℕ) (r : Request) → IsSettled (IsGivenAnswer (Some file) (answers_of_matrix files r) files) (IsGivenDue (Some file) (due_of_matrix told r) told)
+  file_request_settled : (file : List ℕ) (r : Request)
+      → IsSettled (IsGivenAnswer (Some file) (answers_of_matrix files r) files) (IsGivenDue (Some file) (due_of_matrix told r) told)
   file_request_settled file r =
-      file_settled matrix_file (IsBytesAnswer (answers_of_matrix files r)) (IsBytesDue (due_of_matrix told r)) (bytes_settled (answers_of_matrix files r) (due_of_matrix told r) (matrix_settled r)) (files file) (told file) (same file)
+      file_settled matrix_file (IsBytesAnswer (answers_of_matrix files r)) (IsBytesDue (due_of_matrix told r))
+      (bytes_settled (answers_of_matrix files r) (due_of_matrix told r) (matrix_settled r)) (files file) (told file) (same file)
 
   pub request_settled : (r : Request) → IsSettled (answers_of r files) (due_of r told)
   request_settled (Solve file limits workers traced) = file_request_settled file (Solve file limits workers traced)
@@ -94,11 +100,13 @@ module _ (files part : List ℕ → FileShown) (all : (name : List ℕ) → Encl
   matrix_enclosed (Copositive file depth workers) a e text h = h
   matrix_enclosed (Sample n k first workers) a e text h = h
 
-  bytes_enclosed : (r : Request) (bytes : List ℕ) (e : Ended) (text : List ℕ) → IsBytesAnswer (answers_of_matrix part r) bytes e text → IsBytesAnswer (answers_of_matrix files r) bytes e text
+  bytes_enclosed : (r : Request) (bytes : List ℕ) (e : Ended) (text : List ℕ) → IsBytesAnswer (answers_of_matrix part r) bytes e text
+      → IsBytesAnswer (answers_of_matrix files r) bytes e text
   bytes_enclosed r bytes e text (inl fault) = inl fault
   bytes_enclosed r bytes e text (inr (a, is, h)) = inr (a, is, matrix_enclosed r a e text h)
 
-  pub request_enclosed : (r : Request) (file : List ℕ) → file_of r ≡ Some file → (read : FileShown) → Encloses (files file) read → (e : Ended) (text : List ℕ) → IsFileAnswer matrix_file (IsBytesAnswer (answers_of_matrix part r)) read e text → answers_of r files e text
+  pub request_enclosed : (r : Request) (file : List ℕ) → file_of r ≡ Some file → (read : FileShown) → Encloses (files file) read → (e : Ended) (text : List ℕ)
+      → IsFileAnswer matrix_file (IsBytesAnswer (answers_of_matrix part r)) read e text → answers_of r files e text
   request_enclosed r file named read more e text h =
       subst (λ (own : Option (List ℕ)). IsGivenAnswer own (answers_of_matrix files r) files e text) (sym named)
       (file_follows matrix_file (IsBytesAnswer (answers_of_matrix part r)) (IsBytesAnswer (answers_of_matrix files r)) (files file) (bytes_enclosed r) e text
@@ -120,7 +128,8 @@ module _ (words : List (List ℕ)) (files : List ℕ → FileShown) where
   words_status e text (inr (request, is, h)) = (request_settled files (λ name. (files name).told) (λ name. refl) request).status e text h
 
   -- an ending that is due is given, unless a file could not be read, the sink failed or memory was wanting
-  pub words_yield : (told : List ℕ → Option (List ℕ)) (shown : SinkShown) (given e : Ended) → ((name : List ℕ) → (files name).told ≡ told name) → EndsBy (IsAnswer words files) shown given → IsRequestDue words told e → YieldsToReading e given
+  pub words_yield : (told : List ℕ → Option (List ℕ)) (shown : SinkShown) (given e : Ended) → ((name : List ℕ) → (files name).told ≡ told name)
+      → EndsBy (IsAnswer words files) shown given → IsRequestDue words told e → YieldsToReading e given
   words_yield told shown given e same (inr (inl f)) d = inr (inr (inl (subst (EndsWith WriteFault) (sym f.fault) (refl, refl))))
   words_yield told shown given e same (inr (inr (inl m))) d = inr (inr (inr (subst (EndsWith Memory) (sym m.memory) (refl, refl))))
   words_yield told shown given e same (inr (inr (inr m))) d = inr (inr (inr (subst (EndsWith Memory) (sym m.memory) (refl, refl))))
@@ -133,9 +142,11 @@ module _ (words : List (List ℕ)) (files : List ℕ → FileShown) where
       by : IsAnswer words files given g.text → YieldsToReading e given
       by (inl ((position, is, ended), written)) = absurd (not_both words asked position is_asked is)
       by (inr (request, is, h)) =
-          first ((request_settled files told same asked).given e given g.text due (subst (λ (r : Request). answers_of r files given g.text) (one_request words request asked is is_asked) h))
+          first ((request_settled files told same asked).given e given g.text due
+          (subst (λ (r : Request). answers_of r files given g.text) (one_request words request asked is is_asked) h))
 
-  pub usage_yields : (shown : SinkShown) (given : Ended) (position : ℕ) → IsUsageAt words position → EndsBy (IsAnswer words files) shown given → YieldsTo (ending (Usage position)) given
+  pub usage_yields : (shown : SinkShown) (given : Ended) (position : ℕ) → IsUsageAt words position → EndsBy (IsAnswer words files) shown given
+      → YieldsTo (ending (Usage position)) given
   usage_yields shown given position at ends = ends_yield (IsAnswer words files) shown (ending (Usage position)) given by ends
     where
       by : (text : List ℕ) → IsAnswer words files given text → given ≡ ending (Usage position)

@@ -28,7 +28,8 @@ end_has_journal limit journal end.OutOfMemory other = absurd (other refl)
 
 pub solved_has_journal : (traced : Bool) (limits : Limits) (a : RationalMatrix) (e : Ended) (text : List ℕ) → IsSolved traced limits a e text → HasJournal e
 solved_has_journal traced limits a e text (inl refused) = (no_visit, ap (λ (e : Ended). e.journal) refused.0.ended)
-solved_has_journal traced limits a e text (inr h) = subst HasJournal (sym h.due.ended) (end_has_journal limits.pivots h.due.walked.journal h.due.walked.end h.due.in_memory)
+solved_has_journal traced limits a e text (inr h) =
+    subst HasJournal (sym h.due.ended) (end_has_journal limits.pivots h.due.walked.journal h.due.walked.end h.due.in_memory)
 
 -- what `sample` answers of a matrix, and of its numbers, which decide the matrix
 pub sampling : (n k first : ℕ) → IsQuestion (IsSampled n k first) (IsSampleDue n k first)

@@ -89,7 +89,8 @@ abbrev pub IsGivenAnswer : Option (List ℕ) → (RationalMatrix → Ended → L
 IsGivenAnswer (Some file) answers files e text = IsFileAnswer matrix_file (IsBytesAnswer answers) (files file) e text
 IsGivenAnswer None answers files e text = (a : RationalMatrix) × answers a e text
 
-abbrev pub IsGivenDue : Option (List ℕ) → (RationalMatrix → Ended → Type 0) → (List ℕ → Option (List ℕ)) → Ended → Type 0
+abbrev pub IsGivenDue : Option (List ℕ) → (RationalMatrix → Ended → Type 0) → (List ℕ → Option (List ℕ)) → Ended
+    → Type 0
 IsGivenDue (Some file) due told e = IsFileDue matrix_file (IsBytesDue due) (told file) e
 IsGivenDue None due told e = (a : RationalMatrix) × due a e
 
@@ -126,7 +127,8 @@ IsCheckUsageDue words e = (position : ℕ) × IsCheckUsageAt words position × (
 
 abbrev pub IsCheckAnswer : List (List ℕ) → (List ℕ → FileShown) → Ended → List ℕ → Type 0
 IsCheckAnswer words files e text = Refuses (IsCheckUsageDue words) e text
-    ⊎ ((file : List ℕ) × (proof : List ℕ) × IsCommandLine words (Check file proof) × answers_of (Check file proof) files e text)
+    ⊎ ((file : List ℕ) × (proof : List ℕ) × IsCommandLine words (Check file proof)
+    × answers_of (Check file proof) files e text)
 
 abbrev pub IsCheckDue : List (List ℕ) → (List ℕ → Option (List ℕ)) → Ended → Type 0
 IsCheckDue words told e =

@@ -31,7 +31,8 @@ proof_file = record { limit = 67108864; too_long = proof_too_long_text }
 
 -- ---- which ending is due
 abbrev pub IsProofFaultDue : List ℕ → Ended → Type 0
-IsProofFaultDue bytes e = (fault : VerdictFault) × ProofFault bytes fault.kind fault.line × (e ≡ ending (FaultyProof fault))
+IsProofFaultDue bytes e = (fault : VerdictFault) × ProofFault bytes fault.kind fault.line
+    × (e ≡ ending (FaultyProof fault))
 
 pub record IsRefusedDue (a : RationalMatrix) (v : Verdict) (e : Ended) : Type 0 where
   pub refusal : Checked

@@ -3,11 +3,12 @@ use Rattle.std.specs.Prelude.{◌≡◌, ◌≢◌, ℕ, ◌<◌, pos, negsuc, B
 use Rattle.std.proofs.Common.{sym, ◌∙◌, ap, ap₂, refl, subst, inl, inr}
 use Rattle.exact_forms.proofs.RationalSums.{sum_ℚ_same, sum_ℚ_none, sum_ℚ-add, mul-sum_ℚ, sum_ℚ_swap, sum_ℚ_one}
 use Rattle.commutative_ring.proofs.Ring.{num, ◌⊕◌, ◌⊗◌, neg, v0, v1, v2, v3}
+use Rattle.commutative_ring.proofs.SmallCases.{same_or_not}
 use Rattle.exact_forms.specs.Slacks.{replaced}
 use Rattle.exact_forms.specs.Rational.{Rational, whole, inverse, neg_ℚ, ◌+ℚ◌, ◌*ℚ◌, ◌/ℚ◌}
 use Rattle.exact_forms.specs.Sums.{sum_ℚ}
 use Rattle.exact_forms.proofs.Rational.{ring_ℚ, div-mul, mul-inverse, one_mul_ℚ, zero_mul_ℚ}
-use Rattle.exact_forms.proofs.Slacks.{replaced_here, replaced_other, same_or_not}
+use Rattle.exact_forms.proofs.Slacks.{replaced_here, replaced_other}
 use Rattle.exact_forms.specs.Coordinates.{Columns, IsCoordinates, IsIndependent, IsBasis, mark, swapped, exchanged_coordinates}
 
 pub mul_zero_ℚ : (x : Rational) → x *ℚ whole (pos 0) ≡ whole (pos 0)
@@ -29,10 +30,6 @@ no_zero_product x y ne e =
     ∙ ap (λ w. w *ℚ inverse y.num y.den) e
     ∙ zero_mul_ℚ (inverse y.num y.den)
 
-pub true_or_false : (b : Bool) → (b ≡ true) ⊎ (b ≡ false)
-true_or_false true = inl refl
-true_or_false false = inr refl
-
 module _ (A : Columns) where
   -- c + s·d writes x + s·y
   pub coordinates_add : (B : ℕ → Bool) (c d : ℕ → Rational) (x y : ℕ → ℕ → Rational) (s : Rational) → IsCoordinates A B c x → IsCoordinates A B d y
@@ -46,7 +43,8 @@ module _ (A : Columns) where
   }
 
   -- a combination of vectors has the combination of their coordinates
-  pub coordinates_total : (B : ℕ → Bool) (m : ℕ) (g : ℕ → Rational) (c : ℕ → ℕ → Rational) (x : ℕ → ℕ → ℕ → Rational) → ((j : ℕ) → j < m → IsCoordinates A B (c j) (x j))
+  pub coordinates_total : (B : ℕ → Bool) (m : ℕ) (g : ℕ → Rational) (c : ℕ → ℕ → Rational) (x : ℕ → ℕ → ℕ → Rational)
+      → ((j : ℕ) → j < m → IsCoordinates A B (c j) (x j))
       → IsCoordinates A B (λ k. sum_ℚ m (λ j. g j *ℚ c j k)) (λ a b. sum_ℚ m (λ j. g j *ℚ x j a b))
   coordinates_total B m g c x h = record {
     outside = λ k l b. sum_ℚ_none m _ (λ j lj. ap (λ w. g j *ℚ w) ((h j lj).outside k l b) ∙ mul_zero_ℚ (g j));
@@ -62,7 +60,8 @@ module _ (A : Columns) where
           ∙ mul-sum_ℚ (A.entry k a b) m (λ j. g j *ℚ c j k)
           ∙ sum_ℚ_same m _ _ (λ j lj. ring_ℚ (A.entry k a b ∷ g j ∷ c j k ∷ []) (v0 ⊗ (v1 ⊗ v2)) (v1 ⊗ (v2 ⊗ v0)) refl)
 
-  pub coordinates_same : (B : ℕ → Bool) (c : ℕ → Rational) (x y : ℕ → ℕ → Rational) → ((a b : ℕ) → a < A.size → b < A.size → x a b ≡ y a b) → IsCoordinates A B c x → IsCoordinates A B c y
+  pub coordinates_same : (B : ℕ → Bool) (c : ℕ → Rational) (x y : ℕ → ℕ → Rational) → ((a b : ℕ) → a < A.size → b < A.size → x a b ≡ y a b)
+      → IsCoordinates A B c x → IsCoordinates A B c y
   coordinates_same B c x y e h = record { outside = h.outside; sum = λ a b la lb. h.sum a b la lb ∙ e a b la lb }
 
   -- coordinates are unique
@@ -70,7 +69,8 @@ module _ (A : Columns) where
       → ((a b : ℕ) → a < A.size → b < A.size → x a b ≡ y a b) → (k : ℕ) → k < A.count → c k ≡ d k
   coordinates_unique B c d x y free hc hd same k l =
       let e : c k +ℚ whole (negsuc 0) *ℚ d k ≡ whole (pos 0) = free.only_zero (λ k. c k +ℚ whole (negsuc 0) *ℚ d k)
-      (coordinates_same B _ _ _ (λ a b la lb. ap (λ w. w +ℚ whole (negsuc 0) *ℚ y a b) (same a b la lb) ∙ ring_ℚ (y a b ∷ []) (v0 ⊕ num (negsuc 0) ⊗ v0) (num (pos 0)) refl)
+      (coordinates_same B _ _ _ (λ a b la lb. ap (λ w. w +ℚ whole (negsuc 0) *ℚ y a b) (same a b la lb)
+      ∙ ring_ℚ (y a b ∷ []) (v0 ⊕ num (negsuc 0) ⊗ v0) (num (pos 0)) refl)
       (coordinates_add B c d x y (whole (negsuc 0)) hc hd)) k l in
       ring_ℚ (c k ∷ d k ∷ []) v0 ((v0 ⊕ num (negsuc 0) ⊗ v1) ⊕ v1) refl ∙ ap (λ w. w +ℚ d k) e ∙ ring_ℚ (d k ∷ []) (num (pos 0) ⊕ v0) v0 refl
 
@@ -81,12 +81,15 @@ module _ (A : Columns) where
     sum = λ a b la lb. sum_marked A.count (λ k. A.entry k a b) e le;
   }
 
-  pub basis_mark : (B : ℕ → Bool) (coord : ℕ → ℕ → Rational) → IsBasis A B coord → (e : ℕ) → e < A.count → B e ≡ true → (k : ℕ) → k < A.count → coord e k ≡ mark e k
-  basis_mark B coord h e le be k lk = coordinates_unique B (coord e) (mark e) (A.entry e) (A.entry e) h.independent (h.written e le) (coordinates_mark B e le be) (λ a b la lb. refl) k lk
+  pub basis_mark : (B : ℕ → Bool) (coord : ℕ → ℕ → Rational) → IsBasis A B coord → (e : ℕ) → e < A.count → B e ≡ true → (k : ℕ) → k < A.count
+      → coord e k ≡ mark e k
+  basis_mark B coord h e le be k lk =
+      coordinates_unique B (coord e) (mark e) (A.entry e) (A.entry e) h.independent (h.written e le) (coordinates_mark B e le be) (λ a b la lb. refl) k lk
 
   -- the coordinates of what the columns write with weights g
   pub read_off : (B : ℕ → Bool) (coord : ℕ → ℕ → Rational) (g c : ℕ → Rational) (x : ℕ → ℕ → Rational) → IsBasis A B coord → IsCoordinates A B c x
-      → ((a b : ℕ) → a < A.size → b < A.size → sum_ℚ A.count (λ j. g j *ℚ A.entry j a b) ≡ x a b) → (k : ℕ) → k < A.count → c k ≡ sum_ℚ A.count (λ j. g j *ℚ coord j k)
+      → ((a b : ℕ) → a < A.size → b < A.size → sum_ℚ A.count (λ j. g j *ℚ A.entry j a b) ≡ x a b) → (k : ℕ) → k < A.count
+      → c k ≡ sum_ℚ A.count (λ j. g j *ℚ coord j k)
   read_off B coord g c x h hc same k l =
       coordinates_unique B c _ x _ h.independent hc (coordinates_total B A.count g coord A.entry h.written) (λ a b la lb. sym (same a b la lb)) k l
 
@@ -109,19 +112,23 @@ module _ (A : Columns) where
   lost_off coord e k ne z = ap₂ (λ v w. v +ℚ neg_ℚ w) (mark_off e k ne) z ∙ ring_ℚ [] (num (pos 0) ⊕ neg (num (pos 0))) (num (pos 0)) refl
 
   -- e less what writes it is nothing
-  lost_sum : (B : ℕ → Bool) (coord : ℕ → ℕ → Rational) (e : ℕ) → e < A.count → IsBasis A B coord → (a b : ℕ) → a < A.size → b < A.size → sum_ℚ A.count (λ k. lost coord e k *ℚ A.entry k a b) ≡ whole (pos 0)
+  lost_sum : (B : ℕ → Bool) (coord : ℕ → ℕ → Rational) (e : ℕ) → e < A.count → IsBasis A B coord → (a b : ℕ) → a < A.size → b < A.size
+      → sum_ℚ A.count (λ k. lost coord e k *ℚ A.entry k a b) ≡ whole (pos 0)
   lost_sum B coord e le h a b la lb =
       sum_ℚ_same A.count _ _ (λ k m. ring_ℚ (mark e k ∷ coord e k ∷ A.entry k a b ∷ []) ((v0 ⊕ neg v1) ⊗ v2) (v0 ⊗ v2 ⊕ num (negsuc 0) ⊗ (v1 ⊗ v2)) refl)
       ∙ sum_ℚ-add A.count (λ k. mark e k *ℚ A.entry k a b) (λ k. whole (negsuc 0) *ℚ (coord e k *ℚ A.entry k a b))
-      ∙ ap₂ (λ v w. v +ℚ w) (sum_marked A.count (λ k. A.entry k a b) e le) (sym (mul-sum_ℚ (whole (negsuc 0)) A.count (λ k. coord e k *ℚ A.entry k a b)) ∙ ap (λ w. whole (negsuc 0) *ℚ w) ((h.written e le).sum a b la lb))
+      ∙ ap₂ (λ v w. v +ℚ w) (sum_marked A.count (λ k. A.entry k a b) e le) (sym (mul-sum_ℚ (whole (negsuc 0)) A.count (λ k. coord e k *ℚ A.entry k a b))
+      ∙ ap (λ w. whole (negsuc 0) *ℚ w) ((h.written e le).sum a b la lb))
       ∙ ring_ℚ (A.entry e a b ∷ []) (v0 ⊕ num (negsuc 0) ⊗ v0) (num (pos 0)) refl
 
   with_lost : (B : ℕ → Bool) (coord : ℕ → ℕ → Rational) (e : ℕ) (c : ℕ → Rational) (x : ℕ → ℕ → Rational) (s : Rational) → e < A.count → IsBasis A B coord
-      → ((a b : ℕ) → a < A.size → b < A.size → sum_ℚ A.count (λ k. c k *ℚ A.entry k a b) ≡ x a b) → (a b : ℕ) → a < A.size → b < A.size → sum_ℚ A.count (λ k. (c k +ℚ s *ℚ lost coord e k) *ℚ A.entry k a b) ≡ x a b
+      → ((a b : ℕ) → a < A.size → b < A.size → sum_ℚ A.count (λ k. c k *ℚ A.entry k a b) ≡ x a b) → (a b : ℕ) → a < A.size → b < A.size
+      → sum_ℚ A.count (λ k. (c k +ℚ s *ℚ lost coord e k) *ℚ A.entry k a b) ≡ x a b
   with_lost B coord e c x s le h hc a b la lb =
       sum_ℚ_same A.count _ _ (λ k m. ring_ℚ (c k ∷ lost coord e k ∷ s ∷ A.entry k a b ∷ []) ((v0 ⊕ v2 ⊗ v1) ⊗ v3) (v0 ⊗ v3 ⊕ v2 ⊗ (v1 ⊗ v3)) refl)
       ∙ sum_ℚ-add A.count (λ k. c k *ℚ A.entry k a b) (λ k. s *ℚ (lost coord e k *ℚ A.entry k a b))
-      ∙ ap₂ (λ v w. v +ℚ w) (hc a b la lb) (sym (mul-sum_ℚ s A.count (λ k. lost coord e k *ℚ A.entry k a b)) ∙ ap (λ w. s *ℚ w) (lost_sum B coord e le h a b la lb))
+      ∙ ap₂ (λ v w. v +ℚ w) (hc a b la lb) (sym (mul-sum_ℚ s A.count (λ k. lost coord e k *ℚ A.entry k a b))
+      ∙ ap (λ w. s *ℚ w) (lost_sum B coord e le h a b la lb))
       ∙ ring_ℚ (x a b ∷ s ∷ []) (v0 ⊕ v1 ⊗ num (pos 0)) v0 refl
 
   pub exchange_written : (B : ℕ → Bool) (coord : ℕ → ℕ → Rational) (l e : ℕ) → e < A.count → l ≢ e → coord e l ≢ whole (pos 0) → IsBasis A B coord
@@ -142,10 +149,12 @@ module _ (A : Columns) where
       by k lk off (inl s) = subst (λ (k : ℕ). coord j k +ℚ (coord j l /ℚ coord e l) *ℚ lost coord e k ≡ whole (pos 0)) (sym s) at_l
       by k lk off (inr n) =
           let both = off_swapped B l e k n off in
-          ap₂ (λ v w. v +ℚ (coord j l /ℚ coord e l) *ℚ w) ((h.written j lj).outside k lk both.1) (lost_off coord e k both.0 ((h.written e le).outside k lk both.1))
+          ap₂ (λ v w. v +ℚ (coord j l /ℚ coord e l) *ℚ w) ((h.written j lj).outside k lk both.1)
+          (lost_off coord e k both.0 ((h.written e le).outside k lk both.1))
           ∙ ring_ℚ ((coord j l /ℚ coord e l) ∷ []) (num (pos 0) ⊕ v0 ⊗ num (pos 0)) (num (pos 0)) refl
 
-  pub exchange_free : (B : ℕ → Bool) (coord : ℕ → ℕ → Rational) (l e : ℕ) → l < A.count → e < A.count → l ≢ e → B e ≡ false → coord e l ≢ whole (pos 0) → IsBasis A B coord → IsIndependent A (swapped B l e)
+  pub exchange_free : (B : ℕ → Bool) (coord : ℕ → ℕ → Rational) (l e : ℕ) → l < A.count → e < A.count → l ≢ e → B e ≡ false → coord e l ≢ whole (pos 0)
+      → IsBasis A B coord → IsIndependent A (swapped B l e)
   exchange_free B coord l e ll le nle be ne h = record { only_zero = λ c hc k lk. finish c hc k lk }
     where
       d : (ℕ → Rational) → ℕ → Rational
@@ -154,19 +163,23 @@ module _ (A : Columns) where
       swapped_l : swapped B l e l ≡ false
       swapped_l = replaced_other (replaced B l false) e true l nle ∙ replaced_here B l false l refl
 
-      d_outside : (c : ℕ → Rational) → IsCoordinates A (swapped B l e) c (λ a b. whole (pos 0)) → (k : ℕ) → k < A.count → B k ≡ false → ((k ≡ e) ⊎ (k ≢ e)) → c k +ℚ neg_ℚ (c e) *ℚ lost coord e k ≡ whole (pos 0)
+      d_outside : (c : ℕ → Rational) → IsCoordinates A (swapped B l e) c (λ a b. whole (pos 0)) → (k : ℕ) → k < A.count → B k ≡ false → ((k ≡ e) ⊎ (k ≢ e))
+          → c k +ℚ neg_ℚ (c e) *ℚ lost coord e k ≡ whole (pos 0)
       d_outside c hc k lk b (inl s) =
-          ap₂ (λ v w. v +ℚ neg_ℚ (c e) *ℚ w) (ap c s) (ap₂ (λ v w. v +ℚ neg_ℚ w) (replaced_here (λ k. whole (pos 0)) e (whole (pos 1)) k s) ((h.written e le).outside k lk b))
+          ap₂ (λ v w. v +ℚ neg_ℚ (c e) *ℚ w) (ap c s)
+          (ap₂ (λ v w. v +ℚ neg_ℚ w) (replaced_here (λ k. whole (pos 0)) e (whole (pos 1)) k s) ((h.written e le).outside k lk b))
           ∙ ring_ℚ (c e ∷ []) (v0 ⊕ neg v0 ⊗ (num (pos 1) ⊕ neg (num (pos 0)))) (num (pos 0)) refl
       d_outside c hc k lk b (inr n) =
-          ap₂ (λ v w. v +ℚ neg_ℚ (c e) *ℚ w) (hc.outside k lk (replaced_other (replaced B l false) e true k n ∙ off (same_or_not k l))) (lost_off coord e k n ((h.written e le).outside k lk b))
+          ap₂ (λ v w. v +ℚ neg_ℚ (c e) *ℚ w) (hc.outside k lk (replaced_other (replaced B l false) e true k n ∙ off (same_or_not k l)))
+          (lost_off coord e k n ((h.written e le).outside k lk b))
           ∙ ring_ℚ (c e ∷ []) (num (pos 0) ⊕ neg v0 ⊗ num (pos 0)) (num (pos 0)) refl
         where
           off : ((k ≡ l) ⊎ (k ≢ l)) → replaced B l false k ≡ false
           off (inl s) = replaced_here B l false k s
           off (inr m) = replaced_other B l false k m ∙ b
 
-      d_zero : (c : ℕ → Rational) → IsCoordinates A (swapped B l e) c (λ a b. whole (pos 0)) → (k : ℕ) → k < A.count → c k +ℚ neg_ℚ (c e) *ℚ lost coord e k ≡ whole (pos 0)
+      d_zero : (c : ℕ → Rational) → IsCoordinates A (swapped B l e) c (λ a b. whole (pos 0)) → (k : ℕ) → k < A.count
+          → c k +ℚ neg_ℚ (c e) *ℚ lost coord e k ≡ whole (pos 0)
       d_zero c hc k lk = h.independent.only_zero (λ k. c k +ℚ neg_ℚ (c e) *ℚ lost coord e k) record {
         outside = λ k lk b. d_outside c hc k lk b (same_or_not k e);
         sum = with_lost B coord e c (λ a b. whole (pos 0)) (neg_ℚ (c e)) le h hc.sum;

@@ -4,7 +4,7 @@ use Rattle.std.proofs.Common.{arith, sym, ◌∙◌, ap, refl, inl, inr, subst}
 use Rattle.std.proofs.lemmas.Int.{ints}
 use Rattle.std.specs.List.{Contains}
 use Rattle.commutative_ring.proofs.Laws.{mul_zero_ℤ}
-use Rattle.commutative_ring.proofs.Expand.{expand}
+use Rattle.commutative_ring.proofs.SmallCases.{last_or_before, zero_or_not, zero_within}
 use Rattle.exact_forms.specs.Forms.{bilinear, form}
 use Rattle.exact_forms.specs.Vectors.{coordinate, IsNonzero}
 use Rattle.exact_forms.specs.Copositive.{Matrix, IsCopositive, Attains, ListsAttaining, IsMinimum}
@@ -50,13 +50,8 @@ pub nonzero_or_zero : (n : ℕ) (x : List ℕ) → IsNonzero n x ⊎ ((p : ℕ) 
 nonzero_or_zero zero x = inr (λ p l. absurd (omega arith))
 nonzero_or_zero (suc n) x = by (zero_or_not (coordinate x n)) (nonzero_or_zero n x)
   where
-    zero_or_not : (z : ℤ) → (z ≡ pos 0) ⊎ (z ≢ pos 0)
-    zero_or_not z = grind (arith, ints)
-
-    last_or_before : (p n : ℕ) → p < suc n → (p ≡ n) ⊎ (p < n)
-    last_or_before p n l = grind arith
-
-    by : ((coordinate x n ≡ pos 0) ⊎ (coordinate x n ≢ pos 0)) → (IsNonzero n x ⊎ ((p : ℕ) → p < n → coordinate x p ≡ pos 0)) → IsNonzero (suc n) x ⊎ ((p : ℕ) → p < suc n → coordinate x p ≡ pos 0)
+    by : ((coordinate x n ≡ pos 0) ⊎ (coordinate x n ≢ pos 0)) → (IsNonzero n x ⊎ ((p : ℕ) → p < n → coordinate x p ≡ pos 0))
+        → IsNonzero (suc n) x ⊎ ((p : ℕ) → p < suc n → coordinate x p ≡ pos 0)
     by (inr ne) rest = inl (n, omega arith, ne)
     by (inl e) (inl (p, l, ne)) = inl (p, omega arith, ne)
     by (inl e) (inr zeros) = inr (λ p l. each p (last_or_before p n l))
@@ -68,10 +63,7 @@ nonzero_or_zero (suc n) x = by (zero_or_not (coordinate x n)) (nonzero_or_zero n
 -- the value at the zero vector
 pub form_at_zero : (n : ℕ) (q : Matrix) (x : ℕ → ℤ) → ((p : ℕ) → p < n → x p ≡ pos 0) → form n q x ≡ pos 0
 unfolding bilinear
-form_at_zero n q x h = sum_to_none n _ (λ i li. sum_to_none n _ (λ j lj. ap (λ (z : ℤ). q i j *ℤ (z *ℤ x j)) (h i li) ∙ none (q i j) (x j)))
-  where
-    none : (a b : ℤ) → a *ℤ (pos 0 *ℤ b) ≡ pos 0
-    none a b = simp expand
+form_at_zero n q x h = sum_to_none n _ (λ i li. sum_to_none n _ (λ j lj. ap (λ (z : ℤ). q i j *ℤ (z *ℤ x j)) (h i li) ∙ zero_within (q i j) (x j)))
 
 pub strictly_copositive : (n : ℕ) (q : Matrix) → IsStrictlyCopositive n q → IsCopositive n q
 strictly_copositive n q h x size = by (nonzero_or_zero n x)
@@ -102,7 +94,8 @@ minimum_of n q s m k vectors positive there back over h = record {
   };
 }
 
-pub minimum_same : (n : ℕ) (q s : Matrix) (m : ℤ) (vectors : List (List ℕ)) → ((i j : ℕ) → i < n → j < n → q i j ≡ s i j) → IsMinimum n q m vectors → IsMinimum n s m vectors
+pub minimum_same : (n : ℕ) (q s : Matrix) (m : ℤ) (vectors : List (List ℕ)) → ((i j : ℕ) → i < n → j < n → q i j ≡ s i j) → IsMinimum n q m vectors
+    → IsMinimum n s m vectors
 minimum_same n q s m vectors e h =
     minimum_of n q s m m vectors h.positive (λ x v. sym (same x) ∙ v) (λ x v. same x ∙ v) (λ x l. subst (λ (z : ℤ). m ≤ℤ z) (same x) l) h
   where
@@ -119,7 +112,8 @@ copositive_divided n c q hc h x size =
     (subst (λ (z : ℤ). z ≤ℤ (c *ℤ form n q (coordinate x))) (sym (mul_zero_ℤ c)) (subst (λ (z : ℤ). pos 0 ≤ℤ z) (form-mul n c q (coordinate x)) (h x size)))
 
 -- c times the matrix has c times the minimum, at the same vectors
-pub minimum_times : (n : ℕ) (c : ℤ) (q : Matrix) (m : ℤ) (vectors : List (List ℕ)) → pos 1 ≤ℤ c → IsMinimum n q m vectors → IsMinimum n (λ i j. c *ℤ q i j) (c *ℤ m) vectors
+pub minimum_times : (n : ℕ) (c : ℤ) (q : Matrix) (m : ℤ) (vectors : List (List ℕ)) → pos 1 ≤ℤ c → IsMinimum n q m vectors
+    → IsMinimum n (λ i j. c *ℤ q i j) (c *ℤ m) vectors
 minimum_times n c q m vectors hc h =
     minimum_of n q (λ i j. c *ℤ q i j) m (c *ℤ m) vectors (positive_mul c m hc h.positive)
     (λ x v. form-mul n c q x ∙ ap (λ (z : ℤ). c *ℤ z) v)
@@ -127,7 +121,8 @@ minimum_times n c q m vectors hc h =
     (λ x l. subst (λ (z : ℤ). (c *ℤ m) ≤ℤ z) (sym (form-mul n c q x)) (mul_le_left c m (form n q x) (omega (arith, ints)) l))
     h
 
-pub minimum_divided : (n : ℕ) (c : ℤ) (q : Matrix) (m : ℤ) (vectors : List (List ℕ)) → pos 1 ≤ℤ c → IsMinimum n (λ i j. c *ℤ q i j) (c *ℤ m) vectors → IsMinimum n q m vectors
+pub minimum_divided : (n : ℕ) (c : ℤ) (q : Matrix) (m : ℤ) (vectors : List (List ℕ)) → pos 1 ≤ℤ c → IsMinimum n (λ i j. c *ℤ q i j) (c *ℤ m) vectors
+    → IsMinimum n q m vectors
 minimum_divided n c q m vectors hc h =
     minimum_of n (λ i j. c *ℤ q i j) q (c *ℤ m) m vectors (positive_factor c m hc h.positive)
     (λ x v. cancel_positive c (form n q x) m hc (sym (form-mul n c q x) ∙ v))

@@ -3,11 +3,12 @@ use Rattle.std.specs.Prelude.{◌≡◌, ℕ, zero, suc, ◌*◌, ◌<◌, ℤ, 
 use Rattle.std.proofs.Common.{arith, sym, ◌∙◌, ap, ap₂, refl, inl, inr}
 use Rattle.std.proofs.lemmas.Int.{ints}
 use Rattle.commutative_ring.proofs.Ring.{◌⊗◌, v0, v1, v2}
+use Rattle.commutative_ring.proofs.SmallCases.{last_or_before, same_or_not}
 use Rattle.exact_forms.specs.Slacks.{replaced}
 use Rattle.exact_forms.specs.Rational.{Rational, ratio, whole, ◌*ℚ◌}
 use Rattle.exact_forms.proofs.Order.{positive_mul}
 use Rattle.exact_forms.proofs.Rational.{ring_ℚ, ratio_parts, ratio_same, mul-ratio, whole-mul, den_positive}
-use Rattle.exact_forms.proofs.Slacks.{replaced_here, replaced_other, same_or_not}
+use Rattle.exact_forms.proofs.Slacks.{replaced_here, replaced_other}
 
 -- the denominator times the fraction is its numerator
 pub den_times : (x : Rational) → whole (pos x.den) *ℚ x ≡ whole x.num
@@ -37,9 +38,6 @@ cleared (suc m) f =
       same = λ k l. each r k (last_or_before k m l) (same_or_not k m);
     }
   where
-    last_or_before : (i n : ℕ) → i < suc n → (i ≡ n) ⊎ (i < n)
-    last_or_before i n l = grind arith
-
     each : (r : HasCommonDenominator m f) (k : ℕ) → ((k ≡ m) ⊎ (k < m)) → ((k ≡ m) ⊎ ((k ≡ m) → ⊥))
         → whole (replaced (λ k. r.whole_numbers k *ℤ pos (f m).den) m (r.common *ℤ (f m).num) k) ≡ whole (r.common *ℤ pos (f m).den) *ℚ f k
     each r k s (inl e) =
@@ -75,9 +73,6 @@ cleared_square (suc n) m f =
       same = λ i j li lj. each r s i j lj (last_or_before i n li) (same_or_not i n);
     }
   where
-    last_or_before : (i n : ℕ) → i < suc n → (i ≡ n) ⊎ (i < n)
-    last_or_before i n l = grind arith
-
     each : (r : IsClearedSquare n m f) (s : HasCommonDenominator m (f n)) (i j : ℕ) → j < m → ((i ≡ n) ⊎ (i < n)) → ((i ≡ n) ⊎ ((i ≡ n) → ⊥))
         → whole (cond (eqb i n) (r.common *ℤ s.whole_numbers j) (r.whole_numbers i j *ℤ s.common)) ≡ whole (r.common *ℤ s.common) *ℚ f i j
     each r s i j lj a (inl e) =

@@ -13,10 +13,12 @@ use Rattle.exact_forms.specs.Vectors.{coordinate, IsNonzero}
 use Rattle.exact_forms.specs.Copositive.{Matrix, IsCopositive}
 use Rattle.exact_forms.specs.Factors.{WeightedVector, weighted_sum, inner_ℚ, IsFactorization, Separates}
 use Rattle.exact_forms.proofs.Rational.{ring_ℚ, zero_mul_ℚ, whole-mul, mul-ratio, ratio_same}
-use Rattle.exact_forms.proofs.RationalSums.{sum_ℚ_same, sum_ℚ_swap, mul-sum_ℚ, sum_ℚ-zero, sum_ℚ_head, sums_ℚ_same, sums_ℚ-add, mul-sums_ℚ, sum_ℚ_none, whole-sums}
+use Rattle.exact_forms.proofs.RationalSums.{sum_ℚ_same, sum_ℚ_swap, mul-sum_ℚ, sum_ℚ-zero, sum_ℚ_head, sums_ℚ_same, sums_ℚ-add, mul-sums_ℚ, sum_ℚ_none}
+use Rattle.exact_forms.proofs.RationalSums.{whole-sums}
 use Rattle.exact_forms.proofs.Forms.{form_is_inner}
 use Rattle.exact_forms.proofs.Order.{one_le_square}
-use Rattle.exact_forms.proofs.Signs.{negative-ratio, positive_nonneg, nonneg_add, nonneg_product, positive_add, positive_product, whole_nonneg, whole_positive, nonneg_zero, zero_nonneg, negative_not_nonneg, positive_not_zero}
+use Rattle.exact_forms.proofs.Signs.{negative-ratio, positive_nonneg, nonneg_add, nonneg_product, positive_add, positive_product, whole_nonneg, whole_positive}
+use Rattle.exact_forms.proofs.Signs.{nonneg_zero, zero_nonneg, negative_not_nonneg, positive_not_zero}
 
 -- ---- the weighted sum
 pub weighted_sum-nil : (i j : ℕ) → weighted_sum [] i j ≡ whole (pos 0)
@@ -34,7 +36,8 @@ weighted_sum-append [] ys i j = ring_ℚ (weighted_sum ys i j ∷ []) v0 (num (p
 weighted_sum-append (x ∷ xs) ys i j =
     weighted_sum-cons x (xs ++ ys) i j
     ∙ ap (λ w. x.weight *ℚ whole (coordinate x.vector i *ℤ coordinate x.vector j) +ℚ w) (weighted_sum-append xs ys i j)
-    ∙ ring_ℚ ((x.weight *ℚ whole (coordinate x.vector i *ℤ coordinate x.vector j)) ∷ weighted_sum xs i j ∷ weighted_sum ys i j ∷ []) (v0 ⊕ (v1 ⊕ v2)) (v0 ⊕ v1 ⊕ v2) refl
+    ∙ ring_ℚ ((x.weight *ℚ whole (coordinate x.vector i *ℤ coordinate x.vector j)) ∷ weighted_sum xs i j ∷ weighted_sum ys i j ∷ []) (v0 ⊕ (v1 ⊕ v2))
+    (v0 ⊕ v1 ⊕ v2) refl
     ∙ ap (λ w. w +ℚ weighted_sum ys i j) (sym (weighted_sum-cons x xs i j))
 
 -- the step of a loop: a term more at the end
@@ -42,33 +45,43 @@ pub weighted_sum_push : (terms : List WeightedVector) (term : WeightedVector) (i
     → weighted_sum (terms ++ term ∷ []) i j ≡ weighted_sum terms i j +ℚ term.weight *ℚ whole (coordinate term.vector i *ℤ coordinate term.vector j)
 weighted_sum_push terms term i j =
     weighted_sum-append terms (term ∷ []) i j
-    ∙ ap (λ w. weighted_sum terms i j +ℚ w) (weighted_sum-cons term [] i j ∙ ap (λ w. term.weight *ℚ whole (coordinate term.vector i *ℤ coordinate term.vector j) +ℚ w) (weighted_sum-nil i j))
-    ∙ ring_ℚ (weighted_sum terms i j ∷ (term.weight *ℚ whole (coordinate term.vector i *ℤ coordinate term.vector j)) ∷ []) (v0 ⊕ (v1 ⊕ num (pos 0))) (v0 ⊕ v1) refl
+    ∙ ap (λ w. weighted_sum terms i j +ℚ w) (weighted_sum-cons term [] i j
+    ∙ ap (λ w. term.weight *ℚ whole (coordinate term.vector i *ℤ coordinate term.vector j) +ℚ w) (weighted_sum-nil i j))
+    ∙ ring_ℚ (weighted_sum terms i j ∷ (term.weight *ℚ whole (coordinate term.vector i *ℤ coordinate term.vector j)) ∷ []) (v0 ⊕ (v1 ⊕ num (pos 0))) (v0 ⊕ v1)
+    refl
 
 -- by the terms' places
 pub weighted_sum_by_places : (terms : List WeightedVector) (d : WeightedVector) (i j : ℕ)
-    → weighted_sum terms i j ≡ sum_ℚ (length terms) (λ k. (slice_index_or terms k d).weight *ℚ whole (coordinate (slice_index_or terms k d).vector i *ℤ coordinate (slice_index_or terms k d).vector j))
+    → weighted_sum terms i j
+    ≡ sum_ℚ (length terms)
+    (λ k. (slice_index_or terms k d).weight *ℚ whole (coordinate (slice_index_or terms k d).vector i *ℤ coordinate (slice_index_or terms k d).vector j))
 weighted_sum_by_places [] d i j = weighted_sum-nil i j ∙ sym (sum_ℚ-zero _)
 weighted_sum_by_places (term ∷ terms) d i j =
     weighted_sum-cons term terms i j
     ∙ ap (λ w. term.weight *ℚ whole (coordinate term.vector i *ℤ coordinate term.vector j) +ℚ w) (weighted_sum_by_places terms d i j)
-    ∙ sym (sum_ℚ_head (length terms) (λ k. (slice_index_or (term ∷ terms) k d).weight *ℚ whole (coordinate (slice_index_or (term ∷ terms) k d).vector i *ℤ coordinate (slice_index_or (term ∷ terms) k d).vector j)))
+    ∙ sym (sum_ℚ_head (length terms)
+    (λ k. (slice_index_or (term ∷ terms) k d).weight *ℚ whole
+    (coordinate (slice_index_or (term ∷ terms) k d).vector i *ℤ coordinate (slice_index_or (term ∷ terms) k d).vector j)))
 
 -- ---- the inner product over the rationals
 pub inner_ℚ_is : (n : ℕ) (w : Matrix) (a : ℕ → ℕ → Rational) → inner_ℚ n w a ≡ sum_ℚ n (λ i. sum_ℚ n (λ j. whole (w i j) *ℚ a i j))
 unfolding inner_ℚ
 inner_ℚ_is n w a = refl
 
-pub inner_ℚ_same : (n : ℕ) (w u : Matrix) (a b : ℕ → ℕ → Rational) → ((i j : ℕ) → i < n → j < n → w i j ≡ u i j) → ((i j : ℕ) → i < n → j < n → a i j ≡ b i j) → inner_ℚ n w a ≡ inner_ℚ n u b
+pub inner_ℚ_same : (n : ℕ) (w u : Matrix) (a b : ℕ → ℕ → Rational) → ((i j : ℕ) → i < n → j < n → w i j ≡ u i j) → ((i j : ℕ) → i < n → j < n → a i j ≡ b i j)
+    → inner_ℚ n w a ≡ inner_ℚ n u b
 unfolding inner_ℚ
 inner_ℚ_same n w u a b hw ha = sums_ℚ_same n n _ _ (λ i j li lj. ap₂ (λ (z : ℤ) (x : Rational). whole z *ℚ x) (hw i j li lj) (ha i j li lj))
 
 pub inner_ℚ_none : (n : ℕ) (w : Matrix) (a : ℕ → ℕ → Rational) → ((i j : ℕ) → i < n → j < n → a i j ≡ whole (pos 0)) → inner_ℚ n w a ≡ whole (pos 0)
 unfolding inner_ℚ
-inner_ℚ_none n w a h = sum_ℚ_none n _ (λ i li. sum_ℚ_none n _ (λ j lj. ap (λ x. whole (w i j) *ℚ x) (h i j li lj) ∙ ring_ℚ (whole (w i j) ∷ []) (v0 ⊗ num (pos 0)) (num (pos 0)) refl))
+inner_ℚ_none n w a h =
+    sum_ℚ_none n _ (λ i li. sum_ℚ_none n _ (λ j lj. ap (λ x. whole (w i j) *ℚ x) (h i j li lj)
+    ∙ ring_ℚ (whole (w i j) ∷ []) (v0 ⊗ num (pos 0)) (num (pos 0)) refl))
 
 -- ⟨W, c·A + B⟩
-pub inner_ℚ_linear : (n : ℕ) (w : Matrix) (c : Rational) (a b : ℕ → ℕ → Rational) → inner_ℚ n w (λ i j. c *ℚ a i j +ℚ b i j) ≡ c *ℚ inner_ℚ n w a +ℚ inner_ℚ n w b
+pub inner_ℚ_linear : (n : ℕ) (w : Matrix) (c : Rational) (a b : ℕ → ℕ → Rational)
+    → inner_ℚ n w (λ i j. c *ℚ a i j +ℚ b i j) ≡ c *ℚ inner_ℚ n w a +ℚ inner_ℚ n w b
 unfolding inner_ℚ
 inner_ℚ_linear n w c a b =
     sums_ℚ_same n n _ _ (λ i j li lj. ring_ℚ (whole (w i j) ∷ c ∷ a i j ∷ b i j ∷ []) (v0 ⊗ (v1 ⊗ v2 ⊕ v3)) (v1 ⊗ (v0 ⊗ v2) ⊕ v0 ⊗ v3) refl)
@@ -143,7 +156,8 @@ pub inner_ℚ_of_terms : (n : ℕ) (w : Matrix) (terms : List WeightedVector) �
 unfolding weighted_values
 inner_ℚ_of_terms n w [] = inner_ℚ_none n w (weighted_sum []) (λ i j li lj. weighted_sum-nil i j)
 inner_ℚ_of_terms n w (term ∷ terms) =
-    inner_ℚ_same n w w _ (λ i j. term.weight *ℚ whole (coordinate term.vector i *ℤ coordinate term.vector j) +ℚ weighted_sum terms i j) (λ i j li lj. refl) (λ i j li lj. weighted_sum-cons term terms i j)
+    inner_ℚ_same n w w _ (λ i j. term.weight *ℚ whole (coordinate term.vector i *ℤ coordinate term.vector j) +ℚ weighted_sum terms i j) (λ i j li lj. refl)
+    (λ i j li lj. weighted_sum-cons term terms i j)
     ∙ inner_ℚ_linear n w term.weight (λ i j. whole (coordinate term.vector i *ℤ coordinate term.vector j)) (weighted_sum terms)
     ∙ ap₂ (λ x y. term.weight *ℚ x +ℚ y) (inner_ℚ_of_square n w (coordinate term.vector)) (inner_ℚ_of_terms n w terms)
 
@@ -153,17 +167,20 @@ first_of P term terms h = h 0 term (omega arith)
 pub others_of : (P : WeightedVector → Type 0) (term : WeightedVector) (terms : List WeightedVector) → All P (term ∷ terms) → All P terms
 others_of P term terms h = λ k d l. h (suc k) d (omega arith)
 
-values_nonneg : (n : ℕ) (w : Matrix) (terms : List WeightedVector) → IsCopositive n w → All (λ term. IsPositive term.weight) terms → All (λ term. length term.vector ≡ n) terms → IsNonnegative (weighted_values n w terms)
+values_nonneg : (n : ℕ) (w : Matrix) (terms : List WeightedVector) → IsCopositive n w → All (λ term. IsPositive term.weight) terms
+    → All (λ term. length term.vector ≡ n) terms → IsNonnegative (weighted_values n w terms)
 unfolding weighted_values
 values_nonneg n w [] h positive sized = zero_nonneg
 values_nonneg n w (term ∷ terms) h positive sized =
     nonneg_add (term.weight *ℚ whole (form n w (coordinate term.vector))) (weighted_values n w terms)
-    (nonneg_product term.weight (whole (form n w (coordinate term.vector))) (positive_nonneg term.weight (first_of (λ term. IsPositive term.weight) term terms positive))
+    (nonneg_product term.weight (whole (form n w (coordinate term.vector)))
+    (positive_nonneg term.weight (first_of (λ term. IsPositive term.weight) term terms positive))
     (whole_nonneg (form n w (coordinate term.vector)) (h term.vector (first_of (λ term. length term.vector ≡ n) term terms sized))))
     (values_nonneg n w terms h (others_of (λ term. IsPositive term.weight) term terms positive) (others_of (λ term. length term.vector ≡ n) term terms sized))
 
 -- a copositive W has ⟨W,A⟩ at least 0 where A has a factorization
-pub factorization_nonneg : (n : ℕ) (w : Matrix) (a : ℕ → ℕ → Rational) (terms : List WeightedVector) → IsCopositive n w → IsFactorization n a terms → IsNonnegative (inner_ℚ n w a)
+pub factorization_nonneg : (n : ℕ) (w : Matrix) (a : ℕ → ℕ → Rational) (terms : List WeightedVector) → IsCopositive n w → IsFactorization n a terms
+    → IsNonnegative (inner_ℚ n w a)
 factorization_nonneg n w a terms h factors =
     subst IsNonnegative (sym (inner_ℚ_of_terms n w terms) ∙ inner_ℚ_same n w w (weighted_sum terms) a (λ i j li lj. refl) factors.sum)
     (values_nonneg n w terms h factors.positive factors.sized)
@@ -180,8 +197,10 @@ separates_over n w s d hd = (
 )
 
 -- ---- the entries below n decide
-pub factorization_same : (n : ℕ) (a b : ℕ → ℕ → Rational) (terms : List WeightedVector) → ((i j : ℕ) → i < n → j < n → a i j ≡ b i j) → IsFactorization n a terms → IsFactorization n b terms
-factorization_same n a b terms e h = record { positive = h.positive; sized = h.sized; nonzero = h.nonzero; distinct = h.distinct; sum = λ i j li lj. h.sum i j li lj ∙ e i j li lj }
+pub factorization_same : (n : ℕ) (a b : ℕ → ℕ → Rational) (terms : List WeightedVector) → ((i j : ℕ) → i < n → j < n → a i j ≡ b i j)
+    → IsFactorization n a terms → IsFactorization n b terms
+factorization_same n a b terms e h =
+    record { positive = h.positive; sized = h.sized; nonzero = h.nonzero; distinct = h.distinct; sum = λ i j li lj. h.sum i j li lj ∙ e i j li lj }
 
 pub separates_same : (n : ℕ) (w : Matrix) (a b : ℕ → ℕ → Rational) → ((i j : ℕ) → i < n → j < n → a i j ≡ b i j) → Separates n w a → Separates n w b
 separates_same n w a b e h = record { copositive = h.copositive; negative = subst IsNegative (inner_ℚ_same n w w a b (λ i j li lj. refl) e) h.negative }
@@ -205,19 +224,23 @@ diagonal_nonneg [] p positive = nonneg_zero (weighted_sum [] p p) (weighted_sum-
 diagonal_nonneg (term ∷ terms) p positive =
     subst IsNonnegative (sym (weighted_sum-cons term terms p p))
     (nonneg_add (term.weight *ℚ whole (coordinate term.vector p *ℤ coordinate term.vector p)) (weighted_sum terms p p)
-    (nonneg_product term.weight (whole (coordinate term.vector p *ℤ coordinate term.vector p)) (positive_nonneg term.weight (first_of (λ term. IsPositive term.weight) term terms positive))
+    (nonneg_product term.weight (whole (coordinate term.vector p *ℤ coordinate term.vector p))
+    (positive_nonneg term.weight (first_of (λ term. IsPositive term.weight) term terms positive))
     (whole_nonneg (coordinate term.vector p *ℤ coordinate term.vector p) (omega (arith, ints))))
     (diagonal_nonneg terms p (others_of (λ term. IsPositive term.weight) term terms positive)))
 
 -- and the zero matrix has no other factorization
-pub zero_factors_empty : (n : ℕ) (a : ℕ → ℕ → Rational) (terms : List WeightedVector) → ((i j : ℕ) → i < n → j < n → a i j ≡ whole (pos 0)) → IsFactorization n a terms → terms ≡ []
+pub zero_factors_empty : (n : ℕ) (a : ℕ → ℕ → Rational) (terms : List WeightedVector) → ((i j : ℕ) → i < n → j < n → a i j ≡ whole (pos 0))
+    → IsFactorization n a terms → terms ≡ []
 zero_factors_empty n a [] none h = refl
 zero_factors_empty n a (term ∷ terms) none h =
     let place : IsNonzero n term.vector = first_of (λ term. IsNonzero n term.vector) term terms h.nonzero in
     let p : ℕ = place.0 in
-    let square : IsPositive (whole (coordinate term.vector p *ℤ coordinate term.vector p)) = whole_positive _ (one_le_square (coordinate term.vector p) place.2) in
+    let square : IsPositive (whole (coordinate term.vector p *ℤ coordinate term.vector p)) =
+    whole_positive _ (one_le_square (coordinate term.vector p) place.2) in
     let over : IsPositive (term.weight *ℚ whole (coordinate term.vector p *ℤ coordinate term.vector p) +ℚ weighted_sum terms p p) =
     positive_add (term.weight *ℚ whole (coordinate term.vector p *ℤ coordinate term.vector p)) (weighted_sum terms p p)
-    (positive_product term.weight (whole (coordinate term.vector p *ℤ coordinate term.vector p)) (first_of (λ term. IsPositive term.weight) term terms h.positive) square)
+    (positive_product term.weight (whole (coordinate term.vector p *ℤ coordinate term.vector p))
+    (first_of (λ term. IsPositive term.weight) term terms h.positive) square)
     (diagonal_nonneg terms p (others_of (λ term. IsPositive term.weight) term terms h.positive)) in
     absurd (positive_not_zero _ over (sym (weighted_sum-cons term terms p p) ∙ h.sum p p place.1 place.1 ∙ none p p place.1 place.1))

@@ -9,7 +9,8 @@ use Rattle.commutative_ring.proofs.Expand.{expand, linear}
 use Rattle.exact_forms.proofs.Sums.{sum_to-zero, sum_to-suc, sum_to_same, mul-sum_to, sum_to-mul, sum_to_swap, sums_same, sums-add, mul-sums}
 
 -- ---- the places below n decide
-pub bilinear_same : (n : ℕ) (q s : ℕ → ℕ → ℤ) (x y u w : ℕ → ℤ) → ((i j : ℕ) → i < n → j < n → q i j ≡ s i j) → ((i : ℕ) → i < n → x i ≡ u i) → ((i : ℕ) → i < n → y i ≡ w i)
+pub bilinear_same : (n : ℕ) (q s : ℕ → ℕ → ℤ) (x y u w : ℕ → ℤ) → ((i j : ℕ) → i < n → j < n → q i j ≡ s i j) → ((i : ℕ) → i < n → x i ≡ u i)
+    → ((i : ℕ) → i < n → y i ≡ w i)
     → bilinear n q x y ≡ bilinear n s u w
 unfolding bilinear
 bilinear_same n q s x y u w hq hx hy =
@@ -18,11 +19,13 @@ bilinear_same n q s x y u w hq hx hy =
 pub form_same : (n : ℕ) (q s : ℕ → ℕ → ℤ) (x y : ℕ → ℤ) → ((i j : ℕ) → i < n → j < n → q i j ≡ s i j) → ((i : ℕ) → i < n → x i ≡ y i) → form n q x ≡ form n s y
 form_same n q s x y hq hx = bilinear_same n q s x x y y hq hx hx
 
-pub inner_same : (n : ℕ) (q s t u : ℕ → ℕ → ℤ) → ((i j : ℕ) → i < n → j < n → q i j ≡ t i j) → ((i j : ℕ) → i < n → j < n → s i j ≡ u i j) → inner n q s ≡ inner n t u
+pub inner_same : (n : ℕ) (q s t u : ℕ → ℕ → ℤ) → ((i j : ℕ) → i < n → j < n → q i j ≡ t i j) → ((i j : ℕ) → i < n → j < n → s i j ≡ u i j)
+    → inner n q s ≡ inner n t u
 unfolding inner
 inner_same n q s t u hq hs = sums_same n n _ _ (λ i j li lj. ap₂ (λ (a : ℤ) (b : ℤ). a *ℤ b) (hq i j li lj) (hs i j li lj))
 
-pub combination_same : (m : ℕ) (a b : ℕ → ℤ) (v w : ℕ → ℕ → ℤ) (p : ℕ) → ((k : ℕ) → k < m → a k ≡ b k) → ((k : ℕ) → k < m → v k p ≡ w k p) → combination m a v p ≡ combination m b w p
+pub combination_same : (m : ℕ) (a b : ℕ → ℤ) (v w : ℕ → ℕ → ℤ) (p : ℕ) → ((k : ℕ) → k < m → a k ≡ b k) → ((k : ℕ) → k < m → v k p ≡ w k p)
+    → combination m a v p ≡ combination m b w p
 unfolding combination
 combination_same m a b v w p ha hv = sum_to_same m _ _ (λ k l. ap₂ (λ (x : ℤ) (y : ℤ). x *ℤ y) (ha k l) (hv k l))
 
@@ -61,7 +64,8 @@ unfolding inner
 inner-mul_left n c q s = sums_same n n _ _ (λ i j li lj. mul_assoc_ℤ c (q i j) (s i j)) ∙ sym (mul-sums c n n (λ i j. q i j *ℤ s i j))
 
 pub form-add : (n : ℕ) (q r : ℕ → ℕ → ℤ) (x : ℕ → ℤ) → form n (λ i j. q i j +ℤ r i j) x ≡ form n q x +ℤ form n r x
-form-add n q r x = form_is_inner n (λ i j. q i j +ℤ r i j) x ∙ inner-add_left n q r (λ i j. x i *ℤ x j) ∙ sym (ap₂ (λ (a : ℤ) (b : ℤ). a +ℤ b) (form_is_inner n q x) (form_is_inner n r x))
+form-add n q r x = form_is_inner n (λ i j. q i j +ℤ r i j) x ∙ inner-add_left n q r (λ i j. x i *ℤ x j)
+    ∙ sym (ap₂ (λ (a : ℤ) (b : ℤ). a +ℤ b) (form_is_inner n q x) (form_is_inner n r x))
 
 pub form-mul : (n : ℕ) (c : ℤ) (q : ℕ → ℕ → ℤ) (x : ℕ → ℤ) → form n (λ i j. c *ℤ q i j) x ≡ c *ℤ form n q x
 form-mul n c q x = form_is_inner n (λ i j. c *ℤ q i j) x ∙ inner-mul_left n c q (λ i j. x i *ℤ x j) ∙ sym (ap (λ (a : ℤ). c *ℤ a) (form_is_inner n q x))

@@ -2,6 +2,7 @@
 use Rattle.std.specs.Prelude.{◌≡◌, ℕ, zero, suc, ◌<◌, pos, ◌⊎◌, [], ◌∷◌}
 use Rattle.std.proofs.Common.{arith, sym, ◌∙◌, ap, ap₂, refl, subst, inl, inr}
 use Rattle.commutative_ring.proofs.Ring.{num, ◌⊕◌, ◌⊗◌, neg, v0, v1}
+use Rattle.commutative_ring.proofs.SmallCases.{last_or_before, three_ways}
 use Rattle.exact_forms.specs.Rational.{Rational, whole, neg_ℚ, ◌+ℚ◌, ◌*ℚ◌}
 use Rattle.exact_forms.proofs.Rational.{ring_ℚ}
 use Rattle.exact_forms.specs.Signs.{IsPositive, IsNonnegative}
@@ -33,11 +34,8 @@ lex_below n f g h = record {
   there = h.there;
 }
 
-three : (i j : ℕ) → (i < j) ⊎ ((i ≡ j) ⊎ (j < i))
-three i j = grind arith
-
 pub lex_add : (n : ℕ) (f g : ℕ → Rational) → IsLexPositive n f → IsLexPositive n g → IsLexPositive n (λ k. f k +ℚ g k)
-lex_add n f g p q = by (three p.place q.place)
+lex_add n f g p q = by (three_ways p.place q.place)
   where
     none_here : (k : ℕ) → f k ≡ whole (pos 0) → g k ≡ whole (pos 0) → f k +ℚ g k ≡ whole (pos 0)
     none_here k a b = ap₂ (λ x y. x +ℚ y) a b ∙ ring_ℚ [] (num (pos 0) ⊕ num (pos 0)) (num (pos 0)) refl
@@ -59,7 +57,8 @@ lex_add n f g p q = by (three p.place q.place)
       place = q.place;
       within = q.within;
       before = λ k m. none_here k (p.before k (omega arith)) (q.before k m);
-      there = subst IsPositive (ring_ℚ (g q.place ∷ f q.place ∷ []) (v0 ⊕ v1) (v1 ⊕ v0) refl) (positive_add (g q.place) (f q.place) q.there (nonneg_zero (f q.place) (p.before q.place l)));
+      there = subst IsPositive (ring_ℚ (g q.place ∷ f q.place ∷ []) (v0 ⊕ v1) (v1 ⊕ v0) refl)
+          (positive_add (g q.place) (f q.place) q.there (nonneg_zero (f q.place) (p.before q.place l)));
     }
 
 pub lex_times : (n : ℕ) (c : Rational) (f : ℕ → Rational) → IsPositive c → IsLexPositive n f → IsLexPositive n (λ k. c *ℚ f k)
@@ -88,9 +87,6 @@ pub lex_sign : (n : ℕ) (f : ℕ → Rational) → LexSign n f
 lex_sign zero f = lex_none (λ k l. absurd (omega arith))
 lex_sign (suc n) f = by (lex_sign n f)
   where
-    last_or_before : (i n : ℕ) → i < suc n → (i ≡ n) ⊎ (i < n)
-    last_or_before i n l = grind arith
-
     minus_none : (x : Rational) → x ≡ whole (pos 0) → neg_ℚ x ≡ whole (pos 0)
     minus_none x e = ap neg_ℚ e ∙ ring_ℚ [] (neg (num (pos 0))) (num (pos 0)) refl
 
@@ -109,7 +105,7 @@ lex_sign (suc n) f = by (lex_sign n f)
     by (lex_below_zero p) = lex_below_zero record { place = p.place; within = let a = p.within in omega arith; before = p.before; there = p.there }
 
 pub lex_not_both : (n : ℕ) (f : ℕ → Rational) → IsLexPositive n f → IsLexPositive n (λ k. neg_ℚ (f k)) → ⊥
-lex_not_both n f p q = by (three p.place q.place)
+lex_not_both n f p q = by (three_ways p.place q.place)
   where
     clash : (k : ℕ) → IsPositive (f k) → neg_ℚ (f k) ≡ whole (pos 0) → ⊥
     clash k h e = not_both (f k) h (nonneg_zero (neg_ℚ (f k)) e)

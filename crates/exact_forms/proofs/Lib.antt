@@ -21,3 +21,4 @@ pub mod Rays
 pub mod PositiveTerms
 pub mod Lowest
 pub mod Lists
+pub mod TwoRows

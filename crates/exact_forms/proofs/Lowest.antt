@@ -1,5 +1,5 @@
 -- A fraction in lowest terms is what its two numbers say.
-use Rattle.std.specs.Prelude.{◌≡◌, ◌≢◌, ◌↔◌, ℕ, zero, suc, ◌<◌, ◌≤◌, ◌/◌, ◌%◌, ◌^◌, ℤ, pos, negsuc, neg_ℤ, ◌*ℤ◌, ◌≤ℤ◌, ◌<ℤ◌, nat_abs, T, ltb, eqb}
+use Rattle.std.specs.Prelude.{◌≡◌, ◌≢◌, ◌↔◌, ℕ, zero, suc, ◌<◌, ◌≤◌, ◌/◌, ◌^◌, ℤ, pos, negsuc, neg_ℤ, ◌*ℤ◌, ◌≤ℤ◌, ◌<ℤ◌, nat_abs, T, ltb, eqb}
 use Rattle.std.proofs.Common.{arith, sym, ◌∙◌, ap, ap₂, refl, subst, lt_of_le_of_lt}
 use Rattle.std.proofs.lemmas.Int.{ints}
 use native.Mathlib.Nat.{div-le_self}
@@ -7,6 +7,7 @@ use Rattle.commutative_ring.specs.Gcd.{gcd_of, gcd_steps, divided}
 use Rattle.commutative_ring.proofs.Gcd.{gcd_of-step}
 use Rattle.commutative_ring.proofs.Coprime.{gcd_comm}
 use Rattle.commutative_ring.proofs.Lowest.{nat_abs-divided}
+use Rattle.commutative_ring.proofs.SmallCases.{mod_one, nat_abs-neg}
 use Rattle.exact_forms.specs.Rational.{Rational, ratio, whole, neg_ℚ, inverse}
 use Rattle.exact_forms.proofs.Rational.{ratio_parts, ratio_value, ratio_same, den_positive, num_den_lowest}
 use Rattle.exact_forms.specs.Lowest.{IsLowest}
@@ -49,17 +50,12 @@ lowest_of_parts n (negsuc d) h k = absurd (omega (arith, ints))
 -- a whole number
 pub lowest_whole : (n : ℤ) → nat_abs n < 2 ^ 127 → IsLowest n (pos 1)
 unfolding gcd_of gcd_steps
-lowest_whole n k = record { positive = omega (arith, ints); lowest = gcd_of-step (nat_abs n) 1 ∙ ap (λ r. gcd_of 1 r) (over (nat_abs n)) ∙ refl; fits = k }
-  where
-    over : (a : ℕ) → a % 1 ≡ 0
-    over a = omega arith
-
-nat_abs-neg : (n : ℤ) → nat_abs (neg_ℤ n) ≡ nat_abs n
-nat_abs-neg n = omega (arith, ints)
+lowest_whole n k = record { positive = omega (arith, ints); lowest = gcd_of-step (nat_abs n) 1 ∙ ap (λ r. gcd_of 1 r) (mod_one (nat_abs n)) ∙ refl; fits = k }
 
 -- the other sign
 pub lowest_neg : (n d : ℤ) → IsLowest n d → IsLowest (neg_ℤ n) d
-lowest_neg n d h = record { positive = h.positive; lowest = ap (λ (m : ℕ). gcd_of m (nat_abs d)) (nat_abs-neg n) ∙ h.lowest; fits = (rw (nat_abs-neg n) h.fits) }
+lowest_neg n d h =
+    record { positive = h.positive; lowest = ap (λ (m : ℕ). gcd_of m (nat_abs d)) (nat_abs-neg n) ∙ h.lowest; fits = (rw (nat_abs-neg n) h.fits) }
 
 pub ratio-neg : (n d : ℤ) (x : Rational) → IsLowest n d → ratio n (nat_abs d) ≡ x → ratio (neg_ℤ n) (nat_abs d) ≡ neg_ℚ x
 unfolding neg_ℚ

@@ -1,5 +1,5 @@
 -- The neighbour of a perfect matrix along an extreme ray.
-use Rattle.std.specs.Prelude.{◌≡◌, ℕ, zero, suc, ◌<◌, ℤ, pos, negsuc, ◌+ℤ◌, ◌*ℤ◌, ◌-ℤ◌, ◌≤ℤ◌, ◌<ℤ◌, neg_ℤ, ◌⊎◌, List, length, slice_index_or}
+use Rattle.std.specs.Prelude.{◌≡◌, ℕ, ◌<◌, ℤ, pos, ◌+ℤ◌, ◌*ℤ◌, ◌-ℤ◌, ◌≤ℤ◌, ◌<ℤ◌, neg_ℤ, ◌⊎◌, List, length, slice_index_or}
 use Rattle.std.proofs.Common.{arith, sym, ◌∙◌, ap, ap₂, refl, subst, inl, inr}
 use Rattle.std.proofs.lemmas.Int.{ints}
 use Rattle.std.specs.List.{All, Contains}
@@ -14,6 +14,7 @@ use Rattle.exact_forms.specs.Neighbours.{IsCombined, IsTightening, IsCandidate}
 use Rattle.exact_forms.proofs.Sums.{sums_same, sums-add, mul-sums}
 use Rattle.exact_forms.proofs.Forms.{form_is_inner, form_same, form-mul}
 use Rattle.exact_forms.proofs.Order.{positive_mul, nonneg_mul, no_zero_divisor, positive_factor, cancel_positive}
+use Rattle.exact_forms.proofs.Signs.{of_positive_product}
 
 pub inner_combined : (n : ℕ) (g q p : ℤ) (P R C S : Matrix) → IsCombined n g q p P R C → g *ℤ inner n C S ≡ q *ℤ inner n P S +ℤ p *ℤ inner n R S
 unfolding inner
@@ -50,21 +51,17 @@ module _ (n : ℕ) (P R : Matrix) (mu : ℤ) (vectors : List (List ℕ)) (M : Is
   -- λ is over 0
   pub tightening_positive : (w : List ℕ) (p q : ℤ) → IsTightening n P R mu w p q → pos 1 ≤ℤ p
   tightening_positive w p q T =
-      positive p (neg_ℤ (form n R (coordinate w))) (form n P (coordinate w) -ℤ mu) q (let b = T.below in omega (arith, linear)) (let a = above_minimum w T.size T.nonzero T.below in omega (arith, linear)) T.den T.ratio
+      positive p (neg_ℤ (form n R (coordinate w))) (form n P (coordinate w) -ℤ mu) q (let b = T.below in
+      omega (arith, linear)) (let a = above_minimum w T.size T.nonzero T.below in omega (arith, linear)) T.den T.ratio
     where
       positive : (p b a q : ℤ) → pos 1 ≤ℤ b → pos 1 ≤ℤ a → pos 1 ≤ℤ q → p *ℤ b ≡ q *ℤ a → pos 1 ≤ℤ p
-      positive p b a q hb ha hq e = of_product p b hb (subst (λ z. pos 1 ≤ℤ z) (sym e) (positive_mul q a hq ha))
-        where
-          of_product : (n d : ℤ) → pos 1 ≤ℤ d → pos 1 ≤ℤ (n *ℤ d) → pos 1 ≤ℤ n
-          of_product (pos zero) d h k = absurd (omega (arith, ints))
-          of_product (pos (suc n)) d h k = omega (arith, ints)
-          of_product (negsuc n) (pos d) h k = absurd (omega (arith, ints))
-          of_product (negsuc n) (negsuc d) h k = absurd (omega (arith, ints))
+      positive p b a q hb ha hq e = of_positive_product p b hb (subst (λ z. pos 1 ≤ℤ z) (sym e) (positive_mul q a hq ha))
 
   module _ (w : List ℕ) (p q g level : ℤ) (C : Matrix) (T : IsTightening n P R mu w p q) (K : IsCandidate n P R mu p q g level C) where
     -- the vector has the level
     pub at_level : form n C (coordinate w) ≡ level
-    at_level = cancel_positive g (form n C (coordinate w)) level K.divisor (form_combined n g q p P R C (coordinate w) K.combined ∙ turn (form n P (coordinate w)) (form n R (coordinate w)) T.ratio ∙ sym K.level_is)
+    at_level = cancel_positive g (form n C (coordinate w)) level K.divisor (form_combined n g q p P R C (coordinate w) K.combined
+        ∙ turn (form n P (coordinate w)) (form n R (coordinate w)) T.ratio ∙ sym K.level_is)
       where
         turn : (a b : ℤ) → p *ℤ neg_ℤ b ≡ q *ℤ (a -ℤ mu) → q *ℤ a +ℤ p *ℤ b ≡ q *ℤ mu
         turn a b e = let e' = simp expand at e in simp expand (omega (arith, linear))
@@ -98,11 +95,13 @@ module _ (n : ℕ) (P R : Matrix) (mu : ℤ) (vectors : List (List ℕ)) (M : Is
             let a : ℤ = x.0 in
             let b : ℤ = x.1 in
             let at_w : a *ℤ form n z (coordinate w) ≡ b *ℤ form n R (coordinate w) =
-            sym (form-mul n a z (coordinate w)) ∙ form_same n (λ i j. a *ℤ z i j) (λ i j. b *ℤ R i j) (coordinate w) (coordinate w) x.3 (λ i l. refl) ∙ form-mul n b R (coordinate w) in
+            sym (form-mul n a z (coordinate w)) ∙ form_same n (λ i j. a *ℤ z i j) (λ i j. b *ℤ R i j) (coordinate w) (coordinate w) x.3 (λ i l. refl)
+            ∙ form-mul n b R (coordinate w) in
             let none : form n R (coordinate w) *ℤ b ≡ pos 0 =
             *ℤ_comm (form n R (coordinate w)) b ∙ sym at_w
             ∙ ap (λ (y : ℤ). a *ℤ y) (zero_at z h w record { size = T.size; nonzero = T.nonzero; value = at_level }) ∙ mul_zero_ℤ a in
-            let b_zero : b ≡ pos 0 = no_zero_divisor (form n R (coordinate w)) b (λ (e : form n R (coordinate w) ≡ pos 0). absurd (let l = T.below in omega (arith, linear))) none in
+            let b_zero : b ≡ pos 0 =
+            no_zero_divisor (form n R (coordinate w)) b (λ (e : form n R (coordinate w) ≡ pos 0). absurd (let l = T.below in omega (arith, linear))) none in
             no_zero_divisor a (z i j) x.2 (x.3 i j li lj ∙ ap (λ (y : ℤ). y *ℤ R i j) b_zero ∙ zero_mul_ℤ (R i j))
 
     -- the new vector stands on the neighbour's list and not on P's
@@ -145,13 +144,16 @@ module _ (n : ℕ) (P R : Matrix) (mu : ℤ) (vectors : List (List ℕ)) (M : Is
     below_again x size nonzero l =
         let o : pos 1 ≤ℤ (p *ℤ neg_ℤ (form n R (coordinate x)) -ℤ q *ℤ (form n P (coordinate x) -ℤ mu)) = over x l in
         let m : mu ≤ℤ form n P (coordinate x) = M.least x size nonzero in
-        let z : pos 0 ≤ℤ (q *ℤ (form n P (coordinate x) -ℤ mu)) = nonneg_mul q (form n P (coordinate x) -ℤ mu) (let d = T.den in omega (arith, linear)) (omega (arith, linear)) in
-        let f : pos 1 ≤ℤ neg_ℤ (form n R (coordinate x)) = positive_factor p (neg_ℤ (form n R (coordinate x))) (tightening_positive w p q T) (omega (arith, linear)) in
+        let z : pos 0 ≤ℤ (q *ℤ (form n P (coordinate x) -ℤ mu)) =
+        nonneg_mul q (form n P (coordinate x) -ℤ mu) (let d = T.den in omega (arith, linear)) (omega (arith, linear)) in
+        let f : pos 1 ≤ℤ neg_ℤ (form n R (coordinate x)) =
+        positive_factor p (neg_ℤ (form n R (coordinate x))) (tightening_positive w p q T) (omega (arith, linear)) in
         omega (arith, linear)
 
     -- λ falls strictly
     pub lambda_falls : (x : List ℕ) (p' q' : ℤ) → form n C (coordinate x) <ℤ level → IsTightening n P R mu x p' q' → (p' *ℤ q) <ℤ (p *ℤ q')
-    lambda_falls x p' q' l X = falls (form n P (coordinate x) -ℤ mu) (neg_ℤ (form n R (coordinate x))) (let b = X.below in omega (arith, linear)) (over x l) X.ratio
+    lambda_falls x p' q' l X =
+        falls (form n P (coordinate x) -ℤ mu) (neg_ℤ (form n R (coordinate x))) (let b = X.below in omega (arith, linear)) (over x l) X.ratio
       where
         falls : (a b : ℤ) → pos 1 ≤ℤ b → pos 1 ≤ℤ (p *ℤ b -ℤ q *ℤ a) → p' *ℤ b ≡ q' *ℤ a → (p' *ℤ q) <ℤ (p *ℤ q')
         falls a b hb o e =

@@ -5,6 +5,7 @@ use Rattle.std.proofs.lemmas.Int.{ints}
 use Rattle.std.specs.List.{All}
 use Rattle.commutative_ring.proofs.Laws.{mul_add_ℤ}
 use Rattle.commutative_ring.proofs.Expand.{expand, linear}
+use Rattle.commutative_ring.proofs.SmallCases.{zero_within}
 use Rattle.exact_forms.specs.Sums.{sum_to, sum_ℚ}
 use Rattle.exact_forms.specs.Forms.{form, inner, IsSymmetric, mark_ℤ, unit_sum}
 use Rattle.exact_forms.specs.Rational.{Rational, whole, ◌*ℚ◌}
@@ -34,15 +35,12 @@ picked : (n a b : ℕ) (z : Matrix) → a < n → b < n → sum_to n (λ i. sum_
 picked n a b z la lb =
     sum_to_one n (λ i. sum_to n (λ j. z i j *ℤ (mark_ℤ a i *ℤ mark_ℤ b j))) a la (λ i li ne.
     sum_to_none n (λ j. z i j *ℤ (mark_ℤ a i *ℤ mark_ℤ b j)) (λ j lj.
-    ap (λ (w : ℤ). z i j *ℤ (w *ℤ mark_ℤ b j)) (replaced_other (λ k. pos 0) a (pos 1) i ne) ∙ gone (z i j) (mark_ℤ b j)))
+    ap (λ (w : ℤ). z i j *ℤ (w *ℤ mark_ℤ b j)) (replaced_other (λ k. pos 0) a (pos 1) i ne) ∙ zero_within (z i j) (mark_ℤ b j)))
     ∙ sum_to_one n (λ j. z a j *ℤ (mark_ℤ a a *ℤ mark_ℤ b j)) b lb (λ j lj ne.
     ap (λ (w : ℤ). z a j *ℤ (mark_ℤ a a *ℤ w)) (replaced_other (λ k. pos 0) b (pos 1) j ne) ∙ gone_too (z a j) (mark_ℤ a a))
     ∙ ap₂ (λ (x : ℤ) (y : ℤ). z a b *ℤ (x *ℤ y)) (replaced_here (λ k. pos 0) a (pos 1) a refl) (replaced_here (λ k. pos 0) b (pos 1) b refl)
     ∙ kept (z a b)
   where
-    gone : (x y : ℤ) → x *ℤ (pos 0 *ℤ y) ≡ pos 0
-    gone x y = simp expand
-
     gone_too : (x y : ℤ) → x *ℤ (y *ℤ pos 0) ≡ pos 0
     gone_too x y = simp expand
 

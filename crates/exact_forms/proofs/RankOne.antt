@@ -17,12 +17,14 @@ abbrev square : List (List ℕ) → ℕ → ℕ → ℕ → Rational
 square vectors k i j = whole (coordinate (slice_index_or vectors k []) i *ℤ coordinate (slice_index_or vectors k []) j)
 
 pub rank_one_sum_is : (vectors : List (List ℕ)) (c : ℕ → Rational) (i j : ℕ)
-    → rank_one_sum vectors c i j ≡ sum_ℚ (length vectors) (λ k. c k *ℚ whole (coordinate (slice_index_or vectors k []) i *ℤ coordinate (slice_index_or vectors k []) j))
+    → rank_one_sum vectors c i j
+    ≡ sum_ℚ (length vectors) (λ k. c k *ℚ whole (coordinate (slice_index_or vectors k []) i *ℤ coordinate (slice_index_or vectors k []) j))
 unfolding rank_one_sum
 rank_one_sum_is vectors c i j = refl
 
 -- the coefficients of the vectors decide
-pub rank_one_sum_same : (vectors : List (List ℕ)) (c d : ℕ → Rational) (i j : ℕ) → ((k : ℕ) → k < length vectors → c k ≡ d k) → rank_one_sum vectors c i j ≡ rank_one_sum vectors d i j
+pub rank_one_sum_same : (vectors : List (List ℕ)) (c d : ℕ → Rational) (i j : ℕ) → ((k : ℕ) → k < length vectors → c k ≡ d k)
+    → rank_one_sum vectors c i j ≡ rank_one_sum vectors d i j
 unfolding rank_one_sum
 rank_one_sum_same vectors c d i j h = sum_ℚ_same (length vectors) _ _ (λ k l. ap (λ w. w *ℚ square vectors k i j) (h k l))
 
@@ -51,10 +53,12 @@ coordinates_agree n vectors c d a free hc hd k l =
 pub independent_of_free : (A : Columns) (B : ℕ → Bool) (vectors : List (List ℕ)) (column : ℕ → ℕ) → IsIndependent A B
     → ((k : ℕ) → k < length vectors → column k < A.count) → ((k : ℕ) → k < length vectors → B (column k) ≡ true)
     → ((k l : ℕ) → k < length vectors → l < length vectors → k ≢ l → column k ≢ column l)
-    → ((k i j : ℕ) → k < length vectors → i < A.size → j < A.size → A.entry (column k) i j ≡ whole (coordinate (slice_index_or vectors k []) i *ℤ coordinate (slice_index_or vectors k []) j))
+    → ((k i j : ℕ) → k < length vectors → i < A.size → j < A.size
+    → A.entry (column k) i j ≡ whole (coordinate (slice_index_or vectors k []) i *ℤ coordinate (slice_index_or vectors k []) j))
     → AreIndependent A.size vectors
 unfolding rank_one_sum
-independent_of_free A B vectors column free within chosen apart entries = record { only_zero = λ c h k l. at_column c k l ∙ free.only_zero (spread c) (written c h) (column k) (within k l) }
+independent_of_free A B vectors column free within chosen apart entries =
+    record { only_zero = λ c h k l. at_column c k l ∙ free.only_zero (spread c) (written c h) (column k) (within k l) }
   where
     -- the coefficients over the columns
     spread : (ℕ → Rational) → ℕ → Rational
@@ -64,7 +68,8 @@ independent_of_free A B vectors column free within chosen apart entries = record
     written c h =
         coordinates_same A B (spread c) (λ i j. sum_ℚ (length vectors) (λ k. c k *ℚ A.entry (column k) i j)) (λ i j. whole (pos 0))
         (λ i j li lj. sum_ℚ_same (length vectors) _ _ (λ k l. ap (λ w. c k *ℚ w) (entries k i j l li lj)) ∙ h.sum i j li lj)
-        (coordinates_total A B (length vectors) c (λ k. mark (column k)) (λ k. A.entry (column k)) (λ k l. coordinates_mark A B (column k) (within k l) (chosen k l)))
+        (coordinates_total A B (length vectors) c (λ k. mark (column k)) (λ k. A.entry (column k))
+        (λ k l. coordinates_mark A B (column k) (within k l) (chosen k l)))
 
     at_column : (c : ℕ → Rational) (k : ℕ) → k < length vectors → c k ≡ spread c (column k)
     at_column c k l =

@@ -157,7 +157,8 @@ add_assoc_ℚ x y z =
         ap (λ w. w +ℚ ratio s f) (add-ratio p r d e hd he)
         ∙ add-ratio _ s (d * e) f (mul-pos hd he) hf
         ∙ ratio_same _ _ (d * e * f) (d * (e * f)) (mul-pos (mul-pos hd he) hf) (mul-pos hd (mul-pos he hf))
-        (ring (p ∷ r ∷ s ∷ pos d ∷ pos e ∷ pos f ∷ []) (((v0 ⊗ v4 ⊕ v1 ⊗ v3) ⊗ v5 ⊕ v2 ⊗ (v3 ⊗ v4)) ⊗ (v3 ⊗ (v4 ⊗ v5))) ((v0 ⊗ (v4 ⊗ v5) ⊕ (v1 ⊗ v5 ⊕ v2 ⊗ v4) ⊗ v3) ⊗ (v3 ⊗ v4 ⊗ v5)) refl)
+        (ring (p ∷ r ∷ s ∷ pos d ∷ pos e ∷ pos f ∷ []) (((v0 ⊗ v4 ⊕ v1 ⊗ v3) ⊗ v5 ⊕ v2 ⊗ (v3 ⊗ v4)) ⊗ (v3 ⊗ (v4 ⊗ v5)))
+        ((v0 ⊗ (v4 ⊗ v5) ⊕ (v1 ⊗ v5 ⊕ v2 ⊗ v4) ⊗ v3) ⊗ (v3 ⊗ v4 ⊗ v5)) refl)
         ∙ sym (add-ratio p _ d (e * f) hd (mul-pos he hf))
         ∙ ap (λ w. ratio p d +ℚ w) (sym (add-ratio r s e f he hf))
 
@@ -187,7 +188,8 @@ add_mul_ℚ x y z =
         ap (λ w. w *ℚ ratio s f) (add-ratio p r d e hd he)
         ∙ mul-ratio _ s (d * e) f (mul-pos hd he) hf
         ∙ ratio_same _ _ (d * e * f) (d * f * (e * f)) (mul-pos (mul-pos hd he) hf) (mul-pos (mul-pos hd hf) (mul-pos he hf))
-        (ring (p ∷ r ∷ s ∷ pos d ∷ pos e ∷ pos f ∷ []) ((v0 ⊗ v4 ⊕ v1 ⊗ v3) ⊗ v2 ⊗ (v3 ⊗ v5 ⊗ (v4 ⊗ v5))) ((v0 ⊗ v2 ⊗ (v4 ⊗ v5) ⊕ v1 ⊗ v2 ⊗ (v3 ⊗ v5)) ⊗ (v3 ⊗ v4 ⊗ v5)) refl)
+        (ring (p ∷ r ∷ s ∷ pos d ∷ pos e ∷ pos f ∷ []) ((v0 ⊗ v4 ⊕ v1 ⊗ v3) ⊗ v2 ⊗ (v3 ⊗ v5 ⊗ (v4 ⊗ v5)))
+        ((v0 ⊗ v2 ⊗ (v4 ⊗ v5) ⊕ v1 ⊗ v2 ⊗ (v3 ⊗ v5)) ⊗ (v3 ⊗ v4 ⊗ v5)) refl)
         ∙ sym (add-ratio _ _ (d * f) (e * f) (mul-pos hd hf) (mul-pos he hf))
         ∙ ap₂ (λ v w. v +ℚ w) (sym (mul-ratio p s d f hd hf)) (sym (mul-ratio r s e f he hf))
 
@@ -198,7 +200,8 @@ pub zero_add_ℚ : (x : Rational) → whole (pos 0) +ℚ x ≡ x
 unfolding whole
 zero_add_ℚ x = by_ratio (λ x. whole (pos 0) +ℚ x ≡ x) (λ p d hd.
     add-ratio (pos 0) p 1 d one_positive hd
-    ∙ ratio_same _ _ (1 * d) d (mul-pos one_positive hd) hd (ring (p ∷ pos d ∷ []) ((num (pos 0) ⊗ v1 ⊕ v0 ⊗ num (pos 1)) ⊗ v1) (v0 ⊗ (num (pos 1) ⊗ v1)) refl)) x
+    ∙ ratio_same _ _ (1 * d) d (mul-pos one_positive hd) hd (ring (p ∷ pos d ∷ []) ((num (pos 0) ⊗ v1 ⊕ v0 ⊗ num (pos 1)) ⊗ v1) (v0 ⊗ (num (pos 1) ⊗ v1)) refl))
+    x
 
 pub one_mul_ℚ : (x : Rational) → whole (pos 1) *ℚ x ≡ x
 unfolding whole
@@ -210,7 +213,8 @@ pub zero_mul_ℚ : (x : Rational) → whole (pos 0) *ℚ x ≡ whole (pos 0)
 unfolding whole
 zero_mul_ℚ x = by_ratio (λ x. whole (pos 0) *ℚ x ≡ whole (pos 0)) (λ p d hd.
     mul-ratio (pos 0) p 1 d one_positive hd
-    ∙ ratio_same _ _ (1 * d) 1 (mul-pos one_positive hd) one_positive (ring (p ∷ pos d ∷ []) (num (pos 0) ⊗ v0 ⊗ num (pos 1)) (num (pos 0) ⊗ (num (pos 1) ⊗ v1)) refl)) x
+    ∙ ratio_same _ _ (1 * d) 1 (mul-pos one_positive hd) one_positive
+    (ring (p ∷ pos d ∷ []) (num (pos 0) ⊗ v0 ⊗ num (pos 1)) (num (pos 0) ⊗ (num (pos 1) ⊗ v1)) refl)) x
 
 pub neg_is_mul_ℚ : (x : Rational) → neg_ℚ x ≡ whole (negsuc 0) *ℚ x
 unfolding whole
@@ -222,7 +226,8 @@ neg_is_mul_ℚ x = by_ratio (λ x. neg_ℚ x ≡ whole (negsuc 0) *ℚ x) (λ p 
 pub whole-add : (a b : ℤ) → whole (a +ℤ b) ≡ whole a +ℚ whole b
 unfolding whole
 whole-add a b =
-    ratio_same _ _ 1 (1 * 1) one_positive (mul-pos one_positive one_positive) (ring (a ∷ b ∷ []) ((v0 ⊕ v1) ⊗ num (pos 1)) ((v0 ⊗ num (pos 1) ⊕ v1 ⊗ num (pos 1)) ⊗ num (pos 1)) refl)
+    ratio_same _ _ 1 (1 * 1) one_positive (mul-pos one_positive one_positive)
+    (ring (a ∷ b ∷ []) ((v0 ⊕ v1) ⊗ num (pos 1)) ((v0 ⊗ num (pos 1) ⊕ v1 ⊗ num (pos 1)) ⊗ num (pos 1)) refl)
     ∙ sym (add-ratio a b 1 1 one_positive one_positive)
 
 pub whole-mul : (a b : ℤ) → whole (a *ℤ b) ≡ whole a *ℚ whole b
@@ -251,7 +256,8 @@ rational_ring = record {
 }
 
 -- an identity of polynomials over ℚ
-pub ring_ℚ : (xs : List Rational) (e f : Expr) → normal e ≡ normal f → expr_value rational_ring (at rational_ring xs) e ≡ expr_value rational_ring (at rational_ring xs) f
+pub ring_ℚ : (xs : List Rational) (e f : Expr) → normal e ≡ normal f
+    → expr_value rational_ring (at rational_ring xs) e ≡ expr_value rational_ring (at rational_ring xs) f
 ring_ℚ xs e f same_form = ring_in rational_ring xs e f same_form
 
 -- 1/x times x
@@ -260,7 +266,9 @@ unfolding whole inverse
 mul-inverse x ne = by x.num refl
   where
     by : (n : ℤ) → x.num ≡ n → x *ℚ inverse n x.den ≡ whole (pos 1)
-    by (pos zero) e = absurd (ne (sym (ratio_parts x) ∙ ap (λ (n : ℤ). ratio n x.den) e ∙ ratio_same (pos 0) (pos 0) x.den 1 (den_positive x) one_positive (ring (pos x.den ∷ []) (num (pos 0) ⊗ num (pos 1)) (num (pos 0) ⊗ v0) refl)))
+    by (pos zero) e =
+        absurd (ne (sym (ratio_parts x) ∙ ap (λ (n : ℤ). ratio n x.den) e
+        ∙ ratio_same (pos 0) (pos 0) x.den 1 (den_positive x) one_positive (ring (pos x.den ∷ []) (num (pos 0) ⊗ num (pos 1)) (num (pos 0) ⊗ v0) refl)))
     by (pos (suc n)) e =
         ap (λ w. w *ℚ ratio (pos x.den) (suc n)) (sym (ratio_parts x) ∙ ap (λ (n : ℤ). ratio n x.den) e)
         ∙ mul-ratio (pos (suc n)) (pos x.den) x.den (suc n) (den_positive x) (omega arith)

@@ -4,14 +4,12 @@ use Rattle.std.proofs.Common.{arith, sym, ◌∙◌, ap, ap₂, refl, subst, mul
 use Rattle.std.proofs.lemmas.Int.{ints}
 use Rattle.commutative_ring.proofs.Expand.{expand, linear}
 use Rattle.commutative_ring.proofs.Ring.{ring, ◌⊕◌, ◌⊗◌, neg, v0, v1, v2, v3}
+use Rattle.commutative_ring.proofs.SmallCases.{at_least_one, at_most_itself_ℤ, both_at_most}
 use Rattle.exact_forms.specs.Rational.{Rational, ratio, whole, ◌+ℚ◌, neg_ℚ, ◌≤ℚ◌, ◌<ℚ◌}
 use Rattle.exact_forms.specs.Signs.{IsPositive, IsNonnegative}
 use Rattle.exact_forms.proofs.Rational.{ring_ℚ, ratio_value, ratio_parts, ratio_same, den_positive, neg-ratio, add-ratio}
 use Rattle.exact_forms.proofs.Order.{mul_le_left, le_of_mul_le_left, positive_mul}
 use Rattle.exact_forms.proofs.Signs.{positive-ratio, nonneg-ratio, positive_add, nonneg_add}
-
-pub at_least_one : (n : ℕ) → 0 < n → pos 1 ≤ℤ pos n
-at_least_one n h = omega (arith, ints)
 
 -- n/k and p/d are one number, so they compare alike
 carried : (n k m l p r d e : ℤ) → pos 1 ≤ℤ d → pos 1 ≤ℤ e → pos 1 ≤ℤ k → pos 1 ≤ℤ l
@@ -21,9 +19,11 @@ carried n k m l p r d e hd he hk hl h i le =
     let kl : pos 1 ≤ℤ (k *ℤ l) = positive_mul k l hk hl in
     let scaled : ((d *ℤ e) *ℤ (n *ℤ l)) ≤ℤ ((d *ℤ e) *ℤ (m *ℤ k)) = mul_le_left (d *ℤ e) (n *ℤ l) (m *ℤ k) (omega (arith, linear)) le in
     let left : (d *ℤ e) *ℤ (n *ℤ l) ≡ (k *ℤ l) *ℤ (p *ℤ e) =
-    ring (n ∷ l ∷ d ∷ e ∷ []) (v2 ⊗ v3 ⊗ (v0 ⊗ v1)) (v0 ⊗ v2 ⊗ (v1 ⊗ v3)) refl ∙ ap (λ (w : ℤ). w *ℤ (l *ℤ e)) h ∙ ring (p ∷ k ∷ l ∷ e ∷ []) (v0 ⊗ v1 ⊗ (v2 ⊗ v3)) (v1 ⊗ v2 ⊗ (v0 ⊗ v3)) refl in
+    ring (n ∷ l ∷ d ∷ e ∷ []) (v2 ⊗ v3 ⊗ (v0 ⊗ v1)) (v0 ⊗ v2 ⊗ (v1 ⊗ v3)) refl ∙ ap (λ (w : ℤ). w *ℤ (l *ℤ e)) h
+    ∙ ring (p ∷ k ∷ l ∷ e ∷ []) (v0 ⊗ v1 ⊗ (v2 ⊗ v3)) (v1 ⊗ v2 ⊗ (v0 ⊗ v3)) refl in
     let right : (d *ℤ e) *ℤ (m *ℤ k) ≡ (k *ℤ l) *ℤ (r *ℤ d) =
-    ring (m ∷ k ∷ d ∷ e ∷ []) (v2 ⊗ v3 ⊗ (v0 ⊗ v1)) (v0 ⊗ v3 ⊗ (v1 ⊗ v2)) refl ∙ ap (λ (w : ℤ). w *ℤ (k *ℤ d)) i ∙ ring (r ∷ l ∷ k ∷ d ∷ []) (v0 ⊗ v1 ⊗ (v2 ⊗ v3)) (v2 ⊗ v1 ⊗ (v0 ⊗ v3)) refl in
+    ring (m ∷ k ∷ d ∷ e ∷ []) (v2 ⊗ v3 ⊗ (v0 ⊗ v1)) (v0 ⊗ v3 ⊗ (v1 ⊗ v2)) refl ∙ ap (λ (w : ℤ). w *ℤ (k *ℤ d)) i
+    ∙ ring (r ∷ l ∷ k ∷ d ∷ []) (v0 ⊗ v1 ⊗ (v2 ⊗ v3)) (v2 ⊗ v1 ⊗ (v0 ⊗ v3)) refl in
     le_of_mul_le_left (k *ℤ l) (p *ℤ e) (r *ℤ d) kl (omega (arith, linear))
 
 carried_back : (p r d e n m k l : ℤ) → pos 1 ≤ℤ d → pos 1 ≤ℤ e → pos 1 ≤ℤ k → pos 1 ≤ℤ l
@@ -72,18 +72,12 @@ lt-ratio p r d e hd he = (
 -- two fractions are equal exactly where the products crosswise are
 pub same-ratio : (p r : ℤ) (d e : ℕ) → 0 < d → 0 < e → (ratio p d ≡ ratio r e) ↔ (p *ℤ pos e ≡ r *ℤ pos d)
 same-ratio p r d e hd he = (
-  λ h. both (p *ℤ pos e) (r *ℤ pos d) ((le-ratio p r d e hd he).0 (le_of_same h)) ((le-ratio r p e d he hd).0 (le_of_same (sym h))),
+  λ h. both_at_most (p *ℤ pos e) (r *ℤ pos d) ((le-ratio p r d e hd he).0 (le_of_same h)) ((le-ratio r p e d he hd).0 (le_of_same (sym h))),
   ratio_same p r d e hd he,
 )
   where
-    both : (a b : ℤ) → a ≤ℤ b → b ≤ℤ a → a ≡ b
-    both a b h k = omega (arith, ints)
-
     le_of_same : {x y : Rational} → x ≡ y → x ≤ℚ y
-    le_of_same {x} e = subst (λ z. x ≤ℚ z) e record { crosswise = reflexive (x.num *ℤ pos x.den) }
-      where
-        reflexive : (a : ℤ) → a ≤ℤ a
-        reflexive a = omega (arith, ints)
+    le_of_same {x} e = subst (λ z. x ≤ℚ z) e record { crosswise = at_most_itself_ℤ (x.num *ℤ pos x.den) }
 
 -- ---- the order by the sign of the difference
 cross_difference : (x y : Rational) → y +ℚ neg_ℚ x ≡ ratio (y.num *ℤ pos x.den -ℤ x.num *ℤ pos y.den) (y.den * x.den)
@@ -113,23 +107,25 @@ le-nonneg x y =
     )
 
 pub le_reflexive : (x : Rational) → x ≤ℚ x
-le_reflexive x = record { crosswise = at_most (x.num *ℤ pos x.den) }
-  where
-    at_most : (a : ℤ) → a ≤ℤ a
-    at_most a = omega (arith, ints)
+le_reflexive x = record { crosswise = at_most_itself_ℤ (x.num *ℤ pos x.den) }
 
 pub le_transitive : (x y z : Rational) → x ≤ℚ y → y ≤ℚ z → x ≤ℚ z
-le_transitive x y z h k = (le-nonneg x z).1 (subst IsNonnegative (ring_ℚ (z ∷ y ∷ x ∷ []) ((v0 ⊕ neg v1) ⊕ (v1 ⊕ neg v2)) (v0 ⊕ neg v2) refl) (nonneg_add (z +ℚ neg_ℚ y) (y +ℚ neg_ℚ x) ((le-nonneg y z).0 k) ((le-nonneg x y).0 h)))
+le_transitive x y z h k =
+    (le-nonneg x z).1
+    (subst IsNonnegative (ring_ℚ (z ∷ y ∷ x ∷ []) ((v0 ⊕ neg v1) ⊕ (v1 ⊕ neg v2)) (v0 ⊕ neg v2) refl)
+    (nonneg_add (z +ℚ neg_ℚ y) (y +ℚ neg_ℚ x) ((le-nonneg y z).0 k) ((le-nonneg x y).0 h)))
 
 pub lt_transitive : (x y z : Rational) → x <ℚ y → y ≤ℚ z → x <ℚ z
-lt_transitive x y z h k = (lt-positive x z).1 (subst IsPositive (ring_ℚ (y ∷ x ∷ z ∷ []) ((v0 ⊕ neg v1) ⊕ (v2 ⊕ neg v0)) (v2 ⊕ neg v1) refl) (positive_add (y +ℚ neg_ℚ x) (z +ℚ neg_ℚ y) ((lt-positive x y).0 h) ((le-nonneg y z).0 k)))
+lt_transitive x y z h k =
+    (lt-positive x z).1
+    (subst IsPositive (ring_ℚ (y ∷ x ∷ z ∷ []) ((v0 ⊕ neg v1) ⊕ (v2 ⊕ neg v0)) (v2 ⊕ neg v1) refl)
+    (positive_add (y +ℚ neg_ℚ x) (z +ℚ neg_ℚ y) ((lt-positive x y).0 h) ((le-nonneg y z).0 k)))
 
 pub le_antisymmetric : (x y : Rational) → x ≤ℚ y → y ≤ℚ x → x ≡ y
 le_antisymmetric x y h k =
-    sym (ratio_parts x) ∙ ratio_same x.num y.num x.den y.den (den_positive x) (den_positive y) (both (x.num *ℤ pos y.den) (y.num *ℤ pos x.den) h.crosswise k.crosswise) ∙ ratio_parts y
-  where
-    both : (a b : ℤ) → a ≤ℤ b → b ≤ℤ a → a ≡ b
-    both a b h k = omega (arith, ints)
+    sym (ratio_parts x)
+    ∙ ratio_same x.num y.num x.den y.den (den_positive x) (den_positive y) (both_at_most (x.num *ℤ pos y.den) (y.num *ℤ pos x.den) h.crosswise k.crosswise)
+    ∙ ratio_parts y
 
 pub lt_le : (x y : Rational) → x <ℚ y → x ≤ℚ y
 lt_le x y h = record { crosswise = let a = h.crosswise in omega (arith, ints) }

@@ -1,7 +1,8 @@
 -- Laws of finite sums of rational numbers, and of whole numbers among them.
 use Rattle.std.specs.Prelude.{◌≡◌, ◌≢◌, ℕ, zero, suc, ◌+◌, ◌<◌, ℤ, pos}
 use Rattle.std.proofs.Common.{sym, ◌∙◌, ap}
-use Rattle.commutative_ring.proofs.SumOf.{total-zero, total-suc, total_more, total_head, total_same, total_none, total-add, mul-total, total-mul, total-neg, total_swap, total_product, total_but_one, total_one, totals_same, totals-add, mul-totals}
+use Rattle.commutative_ring.proofs.SumOf.{total-zero, total-suc, total_more, total_head, total_same, total_none, total-add, mul-total, total-mul, total-neg}
+use Rattle.commutative_ring.proofs.SumOf.{total_swap, total_product, total_but_one, total_one, totals_same, totals-add, mul-totals}
 use Rattle.exact_forms.specs.Rational.{Rational, whole, neg_ℚ, ◌+ℚ◌, ◌*ℚ◌}
 use Rattle.exact_forms.specs.Sums.{sum_to, sum_ℚ}
 use Rattle.exact_forms.proofs.Rational.{rational_ring, whole-add}
@@ -70,11 +71,13 @@ unfolding sum_ℚ
 sum_ℚ_one n f i l h = total_one rational_ring n f i l h
 
 -- the terms of a double sum decide
-pub sums_ℚ_same : (m n : ℕ) (f g : ℕ → ℕ → Rational) → ((i j : ℕ) → i < m → j < n → f i j ≡ g i j) → sum_ℚ m (λ i. sum_ℚ n (λ j. f i j)) ≡ sum_ℚ m (λ i. sum_ℚ n (λ j. g i j))
+pub sums_ℚ_same : (m n : ℕ) (f g : ℕ → ℕ → Rational) → ((i j : ℕ) → i < m → j < n → f i j ≡ g i j)
+    → sum_ℚ m (λ i. sum_ℚ n (λ j. f i j)) ≡ sum_ℚ m (λ i. sum_ℚ n (λ j. g i j))
 unfolding sum_ℚ
 sums_ℚ_same m n f g h = totals_same rational_ring m n f g h
 
-pub sums_ℚ-add : (m n : ℕ) (f g : ℕ → ℕ → Rational) → sum_ℚ m (λ i. sum_ℚ n (λ j. f i j +ℚ g i j)) ≡ sum_ℚ m (λ i. sum_ℚ n (λ j. f i j)) +ℚ sum_ℚ m (λ i. sum_ℚ n (λ j. g i j))
+pub sums_ℚ-add : (m n : ℕ) (f g : ℕ → ℕ → Rational)
+    → sum_ℚ m (λ i. sum_ℚ n (λ j. f i j +ℚ g i j)) ≡ sum_ℚ m (λ i. sum_ℚ n (λ j. f i j)) +ℚ sum_ℚ m (λ i. sum_ℚ n (λ j. g i j))
 unfolding sum_ℚ
 sums_ℚ-add m n f g = totals-add rational_ring m n f g
 

@@ -5,6 +5,7 @@ use Rattle.std.proofs.lemmas.Int.{ints}
 use Rattle.exact_forms.proofs.RationalSums.{sum_ℚ-zero, sum_ℚ-suc}
 use Rattle.commutative_ring.proofs.Ring.{num, ◌⊕◌, ◌⊗◌, neg, v0, v1}
 use Rattle.commutative_ring.proofs.Expand.{linear}
+use Rattle.commutative_ring.proofs.SmallCases.{below_zero_or_not}
 use Rattle.exact_forms.specs.Rational.{Rational, ratio, whole, inverse, neg_ℚ, ◌+ℚ◌, ◌*ℚ◌, ◌/ℚ◌}
 use Rattle.exact_forms.specs.Sums.{sum_ℚ}
 use Rattle.exact_forms.proofs.Rational.{ring_ℚ, ratio_value, ratio_parts, ratio_same, den_positive, mul-inverse}
@@ -15,7 +16,7 @@ den_at_least : (x : Rational) → pos 1 ≤ℤ pos x.den
 den_at_least x = let d = den_positive x in omega (arith, ints)
 
 -- ---- at a fraction
-of_positive_product : (n d : ℤ) → pos 1 ≤ℤ d → pos 1 ≤ℤ (n *ℤ d) → pos 1 ≤ℤ n
+pub of_positive_product : (n d : ℤ) → pos 1 ≤ℤ d → pos 1 ≤ℤ (n *ℤ d) → pos 1 ≤ℤ n
 of_positive_product (pos zero) d h k = absurd (omega (arith, ints))
 of_positive_product (pos (suc n)) d h k = omega (arith, ints)
 of_positive_product (negsuc n) (pos d) h k = absurd (omega (arith, ints))
@@ -29,12 +30,14 @@ of_nonneg_product (negsuc n) (negsuc d) h k = absurd (omega (arith, ints))
 
 pub ratio_positive : (p : ℤ) (d : ℕ) → 0 < d → pos 1 ≤ℤ p → IsPositive (ratio p d)
 ratio_positive p d hd h = record {
-  numerator = of_positive_product (ratio p d).num (pos d) (omega (arith, ints)) (subst (λ z. pos 1 ≤ℤ z) (sym (ratio_value p d hd)) (positive_mul p (pos (ratio p d).den) h (den_at_least (ratio p d))));
+  numerator = of_positive_product (ratio p d).num (pos d) (omega (arith, ints))
+      (subst (λ z. pos 1 ≤ℤ z) (sym (ratio_value p d hd)) (positive_mul p (pos (ratio p d).den) h (den_at_least (ratio p d))));
 }
 
 pub ratio_nonneg : (p : ℤ) (d : ℕ) → 0 < d → pos 0 ≤ℤ p → IsNonnegative (ratio p d)
 ratio_nonneg p d hd h = record {
-  numerator = of_nonneg_product (ratio p d).num (pos d) (omega (arith, ints)) (subst (λ z. pos 0 ≤ℤ z) (sym (ratio_value p d hd)) (nonneg_mul p (pos (ratio p d).den) h (let e = den_at_least (ratio p d) in omega (arith, ints))));
+  numerator = of_nonneg_product (ratio p d).num (pos d) (omega (arith, ints))
+      (subst (λ z. pos 0 ≤ℤ z) (sym (ratio_value p d hd)) (nonneg_mul p (pos (ratio p d).den) h (let e = den_at_least (ratio p d) in omega (arith, ints))));
 }
 
 pub whole_positive : (z : ℤ) → pos 1 ≤ℤ z → IsPositive (whole z)
@@ -48,13 +51,15 @@ whole_nonneg z h = ratio_nonneg z 1 (omega arith) h
 -- the sign of a fraction is that of its numerator
 pub positive-ratio : (p : ℤ) (d : ℕ) → 0 < d → IsPositive (ratio p d) ↔ (pos 1 ≤ℤ p)
 positive-ratio p d hd = (
-  λ h. of_positive_product p (pos (ratio p d).den) (den_at_least (ratio p d)) (subst (λ z. pos 1 ≤ℤ z) (ratio_value p d hd) (positive_mul (ratio p d).num (pos d) h.numerator (omega (arith, ints)))),
+  λ h. of_positive_product p (pos (ratio p d).den) (den_at_least (ratio p d))
+      (subst (λ z. pos 1 ≤ℤ z) (ratio_value p d hd) (positive_mul (ratio p d).num (pos d) h.numerator (omega (arith, ints)))),
   ratio_positive p d hd,
 )
 
 pub nonneg-ratio : (p : ℤ) (d : ℕ) → 0 < d → IsNonnegative (ratio p d) ↔ (pos 0 ≤ℤ p)
 nonneg-ratio p d hd = (
-  λ h. of_nonneg_product p (pos (ratio p d).den) (den_at_least (ratio p d)) (subst (λ z. pos 0 ≤ℤ z) (ratio_value p d hd) (nonneg_mul (ratio p d).num (pos d) h.numerator (omega (arith, ints)))),
+  λ h. of_nonneg_product p (pos (ratio p d).den) (den_at_least (ratio p d))
+      (subst (λ z. pos 0 ≤ℤ z) (ratio_value p d hd) (nonneg_mul (ratio p d).num (pos d) h.numerator (omega (arith, ints)))),
   ratio_nonneg p d hd,
 )
 
@@ -69,11 +74,8 @@ negative_or_nonneg x = by x.num refl
     by (negsuc n) e = inl record { numerator = rw e (omega (arith, ints)) }
 
 pub negative-ratio : (p : ℤ) (d : ℕ) → 0 < d → IsNegative (ratio p d) ↔ (p <ℤ pos 0)
-negative-ratio p d hd = (λ h. below_or (below_zero p) h, λ h. by h (negative_or_nonneg (ratio p d)))
+negative-ratio p d hd = (λ h. below_or (below_zero_or_not p) h, λ h. by h (negative_or_nonneg (ratio p d)))
   where
-    below_zero : (z : ℤ) → (z <ℤ pos 0) ⊎ (pos 0 ≤ℤ z)
-    below_zero z = grind (arith, ints)
-
     below_or : ((p <ℤ pos 0) ⊎ (pos 0 ≤ℤ p)) → IsNegative (ratio p d) → p <ℤ pos 0
     below_or (inl l) h = l
     below_or (inr l) h = absurd (negative_not_nonneg (ratio p d) h (ratio_nonneg p d hd l))

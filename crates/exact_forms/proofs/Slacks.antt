@@ -8,16 +8,16 @@ use Rattle.exact_forms.specs.Forms.{bilinear, form, combination, IsSymmetric}
 use Rattle.exact_forms.specs.Slacks.{replaced, shortfall, slack, IsClosed, AreNonnegative}
 use Rattle.commutative_ring.proofs.Laws.{mul_add_ℤ, add_mul_ℤ, zero_mul_ℤ}
 use Rattle.commutative_ring.proofs.Expand.{expand, linear}
-use Rattle.exact_forms.proofs.Sums.{sum_to-zero, sum_to-suc, sum_to_same, mul-sum_to, sum_to-mul, sum_to_swap, sum_to_le, sum_to_but_one, sum_to-neg, term_le_sum, sums_same, sums-add, mul-sums}
+use Rattle.commutative_ring.proofs.SmallCases.{at_most_trans_ℤ, zero_or_not}
+pub use Rattle.commutative_ring.proofs.SmallCases.{same_or_not}
+use Rattle.exact_forms.proofs.Sums.{sum_to-zero, sum_to-suc, sum_to_same, mul-sum_to, sum_to-mul, sum_to_swap, sum_to_le, sum_to_but_one, sum_to-neg}
+use Rattle.exact_forms.proofs.Sums.{term_le_sum, sums_same, sums-add, mul-sums}
 use Rattle.exact_forms.proofs.Forms.{bilinear_symmetric, form-combination}
 use Rattle.exact_forms.proofs.Order.{nonneg_mul, nonneg_square, mul_le_left, one_le_square, le_of_mul_le_left}
 
 -- some coefficient below m is not 0
 abbrev pub SomeNonzero : ℕ → (ℕ → ℤ) → Type 0
 SomeNonzero m a = (k : ℕ) × (k < m) × (a k ≢ pos 0)
-
-pub same_or_not : (k i : ℕ) → (k ≡ i) ⊎ (k ≢ i)
-same_or_not k i = grind arith
 
 pub replaced_here : {A : Type 0} (f : ℕ → A) (i : ℕ) (y : A) (k : ℕ) → k ≡ i → replaced f i y k ≡ y
 replaced_here f i y k e = let t : eqb k i ≡ true = grind arith in ap (λ (b : Bool). cond b y (f k)) t
@@ -156,15 +156,12 @@ pub closed_bound : (n m : ℕ) (q : ℕ → ℕ → ℤ) (v : ℕ → ℕ → �
     → b ≤ℤ form n q (combination m a v)
 closed_bound n m q v b a s nonneg_b closed nonneg (k, below, nonzero) =
     let squares : pos 1 ≤ℤ sum_to m (λ i. a i *ℤ a i) =
-    at_least (one_le_square (a k) nonzero) (term_le_sum m (λ i. a i *ℤ a i) k below (λ i l. nonneg_square (a i))) in
+    at_most_trans_ℤ (one_le_square (a k) nonzero) (term_le_sum m (λ i. a i *ℤ a i) k below (λ i l. nonneg_square (a i))) in
     let grown : (b *ℤ pos 1) ≤ℤ (b *ℤ sum_to m (λ i. a i *ℤ a i)) = mul_le_left b (pos 1) _ nonneg_b squares in
     let over : (b *ℤ sum_to m (λ i. a i *ℤ a i)) ≤ℤ form m (λ k l. bilinear n q (v k) (v l)) a =
     form_over_bound m _ b a (λ i j li lj. bilinear_symmetric n q (v i) (v j) s) closed nonneg in
     let one : b *ℤ pos 1 ≡ b = simp expand in
     rw (form-combination n m q a v) (omega (arith, linear))
-  where
-    at_least : {x y z : ℤ} → x ≤ℤ y → y ≤ℤ z → x ≤ℤ z
-    at_least h k = omega (arith, linear)
 
 -- closed at 0: no value is negative
 pub closed_at_zero : (n m : ℕ) (q : ℕ → ℕ → ℤ) (v : ℕ → ℕ → ℤ) (a : ℕ → ℤ)
@@ -181,9 +178,6 @@ pub some_nonzero : (m : ℕ) (a : ℕ → ℤ) (v : ℕ → ℕ → ℤ) (p : �
 unfolding combination
 some_nonzero m a v p h = search_below m h
   where
-    zero_or_not : (z : ℤ) → (z ≡ pos 0) ⊎ (z ≢ pos 0)
-    zero_or_not z = grind (arith, ints)
-
     search_below : (m : ℕ) → sum_to m (λ k. a k *ℤ v k p) ≢ pos 0 → SomeNonzero m a
     search_below zero h = absurd (h (sum_to-zero _))
     search_below (suc m) h = by (zero_or_not (a m)) (search_below m)
@@ -215,13 +209,11 @@ IsUnit m a k = (k < m) × (a k ≡ pos 1) × ((i : ℕ) → i < m → i ≢ k �
 unit_of_squares : (m : ℕ) (a : ℕ → ℤ) → AreNonnegative m a → sum_to m (λ i. a i *ℤ a i) ≤ℤ pos 1 → (k : ℕ) → k < m → a k ≢ pos 0 → IsUnit m a k
 unit_of_squares m a nonneg small k l nonzero = (
   l,
-  one_of_square (a k) (nonneg k l) nonzero (at_most (term_le_sum m (λ i. a i *ℤ a i) k l (λ i _. nonneg_square (a i))) small),
-  λ i li ne. zero_of_square (a i) (a k) (one_le_square (a k) nonzero) (at_most (two_terms_le_sum m (λ i. a i *ℤ a i) i k li l ne (λ i _. nonneg_square (a i))) small),
+  one_of_square (a k) (nonneg k l) nonzero (at_most_trans_ℤ (term_le_sum m (λ i. a i *ℤ a i) k l (λ i _. nonneg_square (a i))) small),
+  λ i li ne. zero_of_square (a i) (a k) (one_le_square (a k) nonzero)
+      (at_most_trans_ℤ (two_terms_le_sum m (λ i. a i *ℤ a i) i k li l ne (λ i _. nonneg_square (a i))) small),
 )
   where
-    at_most : {x y z : ℤ} → x ≤ℤ y → y ≤ℤ z → x ≤ℤ z
-    at_most h k = omega (arith, linear)
-
     one_of_square : (x : ℤ) → pos 0 ≤ℤ x → x ≢ pos 0 → (x *ℤ x) ≤ℤ pos 1 → x ≡ pos 1
     one_of_square (pos zero) p n h = absurd (n refl)
     one_of_square (pos (suc zero)) p n h = refl

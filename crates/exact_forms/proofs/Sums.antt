@@ -3,8 +3,10 @@ use Rattle.std.specs.Prelude.{◌≡◌, ◌≢◌, ℕ, zero, suc, ◌+◌, ◌
 use Rattle.std.proofs.Common.{arith, inl, inr}
 use Rattle.std.proofs.lemmas.Int.{ints}
 use Rattle.commutative_ring.proofs.Ring.{int_ring}
-use Rattle.commutative_ring.proofs.SumOf.{total-zero, total-suc, total_more, total_head, total_same, total_none, total-add, mul-total, total-mul, total-neg, total_swap, total_product, total_but_one, total_one, totals_same, totals-add, mul-totals}
+use Rattle.commutative_ring.proofs.SumOf.{total-zero, total-suc, total_more, total_head, total_same, total_none, total-add, mul-total, total-mul, total-neg}
+use Rattle.commutative_ring.proofs.SumOf.{total_swap, total_product, total_but_one, total_one, totals_same, totals-add, mul-totals}
 use Rattle.commutative_ring.proofs.Expand.{linear}
+use Rattle.commutative_ring.proofs.SmallCases.{last_or_before}
 use Rattle.exact_forms.specs.Sums.{sum_to}
 
 -- ---- the laws of every ring's sums
@@ -71,11 +73,13 @@ unfolding sum_to
 sum_to_one n f i l h = total_one int_ring n f i l h
 
 -- the terms of a double sum decide
-pub sums_same : (m n : ℕ) (f g : ℕ → ℕ → ℤ) → ((i j : ℕ) → i < m → j < n → f i j ≡ g i j) → sum_to m (λ i. sum_to n (λ j. f i j)) ≡ sum_to m (λ i. sum_to n (λ j. g i j))
+pub sums_same : (m n : ℕ) (f g : ℕ → ℕ → ℤ) → ((i j : ℕ) → i < m → j < n → f i j ≡ g i j)
+    → sum_to m (λ i. sum_to n (λ j. f i j)) ≡ sum_to m (λ i. sum_to n (λ j. g i j))
 unfolding sum_to
 sums_same m n f g h = totals_same int_ring m n f g h
 
-pub sums-add : (m n : ℕ) (f g : ℕ → ℕ → ℤ) → sum_to m (λ i. sum_to n (λ j. f i j +ℤ g i j)) ≡ sum_to m (λ i. sum_to n (λ j. f i j)) +ℤ sum_to m (λ i. sum_to n (λ j. g i j))
+pub sums-add : (m n : ℕ) (f g : ℕ → ℕ → ℤ)
+    → sum_to m (λ i. sum_to n (λ j. f i j +ℤ g i j)) ≡ sum_to m (λ i. sum_to n (λ j. f i j)) +ℤ sum_to m (λ i. sum_to n (λ j. g i j))
 unfolding sum_to
 sums-add m n f g = totals-add int_ring m n f g
 
@@ -104,9 +108,6 @@ term_le_sum zero f i l h = absurd (omega arith)
 term_le_sum (suc n) f i l h =
     by (last_or_before i n l) (λ b. term_le_sum n f i b (λ k m. h k (omega arith)))
   where
-    last_or_before : (i n : ℕ) → i < suc n → (i ≡ n) ⊎ (i < n)
-    last_or_before i n l = grind arith
-
     by : ((i ≡ n) ⊎ (i < n)) → (i < n → f i ≤ℤ sum_to n f) → f i ≤ℤ sum_to (suc n) f
     by (inl e) step =
         let r : pos 0 ≤ℤ sum_to n f = sum_to_nonneg n f (λ k m. h k (omega arith)) in

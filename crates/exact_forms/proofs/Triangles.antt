@@ -1,9 +1,11 @@
 -- Laws of triangles.
-use Rattle.std.specs.Prelude.{◌⊎◌, ◌≡◌, ℕ, zero, suc, ◌+◌, ◌*◌, ◌<◌, ◌≤◌, ℤ, pos, ◌+ℤ◌, ◌*ℤ◌, Bool, true, false, nat_lt, if◌then◌else◌, List, [], ◌∷◌, map, length, slice_index_or}
+use Rattle.std.specs.Prelude.{◌⊎◌, ◌≡◌, ℕ, zero, suc, ◌+◌, ◌*◌, ◌<◌, ◌≤◌, ℤ, pos, ◌+ℤ◌, ◌*ℤ◌, Bool, true, false, nat_lt, if◌then◌else◌, List, [], ◌∷◌, map}
+use Rattle.std.specs.Prelude.{length, slice_index_or}
 use Rattle.std.proofs.Common.{inl, inr, arith, sym, ◌∙◌, ap, ap₂, refl}
 use Rattle.std.proofs.Math.ListN.{get_or-map}
 use Rattle.commutative_ring.proofs.Expand.{expand, linear}
 use Rattle.commutative_ring.proofs.Ring.{num, ◌⊕◌, ◌⊗◌, v0, v1, v2}
+use Rattle.commutative_ring.proofs.SmallCases.{below_or_not, next_or_within, three_ways, at_least_or_at_most}
 use Rattle.exact_forms.specs.Rational.{Rational, whole, ◌+ℚ◌, ◌*ℚ◌}
 use Rattle.exact_forms.specs.Sums.{sum_to, sum_ℚ}
 use Rattle.exact_forms.specs.Forms.{IsSymmetric}
@@ -31,11 +33,8 @@ twice_triangle (suc n) = let e : 2 * triangle n ≡ n * (n + 1) = twice_triangle
 -- it grows
 pub triangle_grows : (i n : ℕ) → i ≤ n → triangle i ≤ triangle n
 triangle_grows i zero h = let e : i ≡ 0 = omega arith in rw e (omega arith)
-triangle_grows i (suc n) h = by (last_or_before i n h) (triangle_grows i n)
+triangle_grows i (suc n) h = by (next_or_within i n h) (triangle_grows i n)
   where
-    last_or_before : (i n : ℕ) → i ≤ suc n → (i ≡ suc n) ⊎ (i ≤ n)
-    last_or_before i n h = grind arith
-
     by : ((i ≡ suc n) ⊎ (i ≤ n)) → (i ≤ n → triangle i ≤ triangle n) → triangle i ≤ triangle (suc n)
     by (inl e) step = rw e (omega arith)
     by (inr l) step = let s = step l in let t = triangle-suc n in omega arith
@@ -48,9 +47,6 @@ entry_before i j n h l = let t = triangle-suc i in let g : triangle (suc i) ≤ 
 pub row_before : (i j n : ℕ) → triangle i + j < triangle n → i < n
 row_before i j n h = by (below_or_not i n)
   where
-    below_or_not : (i n : ℕ) → (i < n) ⊎ (n ≤ i)
-    below_or_not i n = grind arith
-
     by : ((i < n) ⊎ (n ≤ i)) → i < n
     by (inl l) = l
     by (inr l) = absurd (let g : triangle n ≤ triangle i = triangle_grows n i l in omega arith)
@@ -61,11 +57,8 @@ row_below i j k n f h = row_before i j n (let t = twice_triangle i in omega arit
 
 -- a place of the list is that of one row and column
 pub place_decides : (i j k l : ℕ) → j ≤ i → l ≤ k → triangle i + j ≡ triangle k + l → (i ≡ k) × (j ≡ l)
-place_decides i j k l hj hl e = by (rows i k)
+place_decides i j k l hj hl e = by (three_ways i k)
   where
-    rows : (i k : ℕ) → (i < k) ⊎ ((i ≡ k) ⊎ (k < i))
-    rows i k = grind arith
-
     by : ((i < k) ⊎ ((i ≡ k) ⊎ (k < i))) → (i ≡ k) × (j ≡ l)
     by (inl h) = absurd (let b = entry_before i j k hj h in omega arith)
     by (inr (inl same)) = (same, let t : triangle i ≡ triangle k = ap triangle same in omega arith)
@@ -81,11 +74,8 @@ unfolding entry_in
 entry_in_above none xs i j h = grind arith
 
 pub entry_in_symmetric : {A : Type 0} (none : A) (xs : List A) (i j : ℕ) → entry_in none xs i j ≡ entry_in none xs j i
-entry_in_symmetric none xs i j = by (order i j)
+entry_in_symmetric none xs i j = by (at_least_or_at_most j i)
   where
-    order : (i j : ℕ) → (i ≤ j) ⊎ (j ≤ i)
-    order i j = grind arith
-
     by : ((i ≤ j) ⊎ (j ≤ i)) → entry_in none xs i j ≡ entry_in none xs j i
     by (inl h) = entry_in_above none xs i j h ∙ sym (entry_in_below none xs j i h)
     by (inr h) = entry_in_below none xs i j h ∙ sym (entry_in_above none xs j i h)
@@ -96,12 +86,10 @@ entry_symmetric n none xs i j li lj = entry_in_symmetric none xs i j
 -- each place before row n is that of a row and a column
 pub place_of : (n k : ℕ) → k < triangle n → (i : ℕ) × (j : ℕ) × (i < n) × (j ≤ i) × (k ≡ triangle i + j)
 place_of zero k h = absurd (let t = triangle-zero in omega arith)
-place_of (suc n) k h = by (last_or_before k (triangle n)) (place_of n k)
+place_of (suc n) k h = by (below_or_not k (triangle n)) (place_of n k)
   where
-    last_or_before : (k t : ℕ) → (k < t) ⊎ (t ≤ k)
-    last_or_before k t = grind arith
-
-    by : ((k < triangle n) ⊎ (triangle n ≤ k)) → (k < triangle n → (i : ℕ) × (j : ℕ) × (i < n) × (j ≤ i) × (k ≡ triangle i + j)) → (i : ℕ) × (j : ℕ) × (i < suc n) × (j ≤ i) × (k ≡ triangle i + j)
+    by : ((k < triangle n) ⊎ (triangle n ≤ k)) → (k < triangle n → (i : ℕ) × (j : ℕ) × (i < n) × (j ≤ i) × (k ≡ triangle i + j))
+        → (i : ℕ) × (j : ℕ) × (i < suc n) × (j ≤ i) × (k ≡ triangle i + j)
     by (inl l) step = let s = step l in (s.0, s.1, (omega (arith, s.2)), s.3, s.4)
     by (inr l) step =
         let t = triangle-suc n in
@@ -123,7 +111,8 @@ entries_decide none n xs ys lx ly same = lists_same none xs ys (lx ∙ sym ly) (
         ap (λ (k : ℕ). slice_index_or xs k none) e ∙ sym (entry_in_below none xs i j lj) ∙ same i j lj li
         ∙ entry_in_below none ys i j lj ∙ ap (λ (k : ℕ). slice_index_or ys k none) (sym e)
 
-    lists_same : {A : Type 0} (none : A) (xs ys : List A) → length xs ≡ length ys → ((k : ℕ) → k < length xs → slice_index_or xs k none ≡ slice_index_or ys k none) → xs ≡ ys
+    lists_same : {A : Type 0} (none : A) (xs ys : List A) → length xs ≡ length ys
+        → ((k : ℕ) → k < length xs → slice_index_or xs k none ≡ slice_index_or ys k none) → xs ≡ ys
     lists_same none [] [] e h = refl
     lists_same none [] (y ∷ ys) e h = absurd (omega arith)
     lists_same none (x ∷ xs) [] e h = absurd (omega arith)
@@ -164,6 +153,7 @@ pub entry_in-map : {A B : Type 0} (f : A → B) (none : A) (xs : List A) (i j : 
 unfolding entry_in
 entry_in-map f none xs i j = by (nat_lt i j)
   where
-    by : (b : Bool) → (if b then slice_index_or (map f xs) (triangle j + i) (f none) else slice_index_or (map f xs) (triangle i + j) (f none)) ≡ f (if b then slice_index_or xs (triangle j + i) none else slice_index_or xs (triangle i + j) none)
+    by : (b : Bool) → (if b then slice_index_or (map f xs) (triangle j + i) (f none) else slice_index_or (map f xs) (triangle i + j) (f none))
+        ≡ f (if b then slice_index_or xs (triangle j + i) none else slice_index_or xs (triangle i + j) none)
     by true = get_or-map f xs (triangle j + i) none
     by false = get_or-map f xs (triangle i + j) none

@@ -4,6 +4,7 @@ use Rattle.std.proofs.Common.{arith, sym, ◌∙◌, ap₂, refl, inl, inr, subs
 use Rattle.std.proofs.lemmas.Int.{ints}
 use Rattle.std.proofs.lemmas.List.{get_or_default}
 use Rattle.std.specs.List.{All, Contains}
+use Rattle.commutative_ring.proofs.SmallCases.{three_ways}
 use Rattle.exact_forms.specs.Vectors.{coordinate, ComesBefore, IsIncreasing}
 
 -- the numbers at its places decide a vector
@@ -54,10 +55,13 @@ all_after x (y ∷ xs) h z c = by (contains_cons y xs z c) (all_after y xs h.1 z
     by (inl e) rec = subst (ComesBefore x) e h.0
     by (inr c) rec = before_transitive x y z h.0 (rec c)
 
-pub increasing_unique : (xs ys : List (List ℕ)) → IsIncreasing xs → IsIncreasing ys → ((x : List ℕ) → Contains xs x → Contains ys x) → ((x : List ℕ) → Contains ys x → Contains xs x) → xs ≡ ys
+pub increasing_unique : (xs ys : List (List ℕ)) → IsIncreasing xs → IsIncreasing ys → ((x : List ℕ) → Contains xs x → Contains ys x)
+    → ((x : List ℕ) → Contains ys x → Contains xs x) → xs ≡ ys
 increasing_unique [] [] h k there back = refl
-increasing_unique [] (y ∷ ys) h k there back = absurd (let c : Contains [] y = back y (contains_here y ys) in let l : c.0 < length {A = List ℕ} [] = c.1 in omega arith)
-increasing_unique (x ∷ xs) [] h k there back = absurd (let c : Contains [] x = there x (contains_here x xs) in let l : c.0 < length {A = List ℕ} [] = c.1 in omega arith)
+increasing_unique [] (y ∷ ys) h k there back =
+    absurd (let c : Contains [] y = back y (contains_here y ys) in let l : c.0 < length {A = List ℕ} [] = c.1 in omega arith)
+increasing_unique (x ∷ xs) [] h k there back =
+    absurd (let c : Contains [] x = there x (contains_here x xs) in let l : c.0 < length {A = List ℕ} [] = c.1 in omega arith)
 increasing_unique (x ∷ xs) (y ∷ ys) h k there back =
     let e : x ≡ y = heads (contains_cons y ys x (there x (contains_here x xs))) (contains_cons x xs y (back y (contains_here y ys))) in
     ap₂ (λ (u : List ℕ) (w : List (List ℕ)). u ∷ w) e (increasing_unique xs ys (tail_increases x xs h) (tail_increases y ys k)
@@ -87,11 +91,8 @@ pub before_total : (x y : List ℕ) → length x ≡ length y → Compared x y
 before_total [] [] e = same refl
 before_total [] (b ∷ y) e = absurd (omega arith)
 before_total (a ∷ x) [] e = absurd (omega arith)
-before_total (a ∷ x) (b ∷ y) e = by (order a b) (before_total x y (omega arith))
+before_total (a ∷ x) (b ∷ y) e = by (three_ways a b) (before_total x y (omega arith))
   where
-    order : (a b : ℕ) → (a < b) ⊎ ((a ≡ b) ⊎ (b < a))
-    order a b = grind arith
-
     by : ((a < b) ⊎ ((a ≡ b) ⊎ (b < a))) → Compared x y → Compared (a ∷ x) (b ∷ y)
     by (inl l) rest = before (inl l)
     by (inr (inr l)) rest = after (inl l)
@@ -110,16 +111,19 @@ increasing_push (a ∷ []) x h k = (k a (contains_here a []), tt)
 increasing_push (a ∷ b ∷ xs) x h k = (h.0, increasing_push (b ∷ xs) x h.1 (λ z c. k z (contains_there a (b ∷ xs) z c)))
 
 -- one after the last suffices
-pub increasing_push_last : (xs : List (List ℕ)) (last x : List ℕ) → IsIncreasing (xs ++ last ∷ []) → ComesBefore last x → IsIncreasing ((xs ++ last ∷ []) ++ x ∷ [])
+pub increasing_push_last : (xs : List (List ℕ)) (last x : List ℕ) → IsIncreasing (xs ++ last ∷ []) → ComesBefore last x
+    → IsIncreasing ((xs ++ last ∷ []) ++ x ∷ [])
 increasing_push_last [] last x h k = (k, tt)
 increasing_push_last (a ∷ []) last x h k = (h.0, (k, tt))
 increasing_push_last (a ∷ b ∷ xs) last x h k = (h.0, increasing_push_last (b ∷ xs) last x h.1 k)
 
 -- an earlier place has an earlier vector
-pub increasing_places : (xs : List (List ℕ)) (d : List ℕ) → IsIncreasing xs → (i j : ℕ) → i < j → j < length xs → ComesBefore (slice_index_or xs i d) (slice_index_or xs j d)
+pub increasing_places : (xs : List (List ℕ)) (d : List ℕ) → IsIncreasing xs → (i j : ℕ) → i < j → j < length xs
+    → ComesBefore (slice_index_or xs i d) (slice_index_or xs j d)
 increasing_places [] d h i j l m = absurd (omega arith)
 increasing_places (x ∷ xs) d h i zero l m = absurd (omega arith)
-increasing_places (x ∷ xs) d h zero (suc j) l m = all_after x xs h (slice_index_or xs j d) (j, omega arith, default xs j d (slice_index_or xs j d) (omega arith))
+increasing_places (x ∷ xs) d h zero (suc j) l m =
+    all_after x xs h (slice_index_or xs j d) (j, omega arith, default xs j d (slice_index_or xs j d) (omega arith))
   where
     default : (xs : List (List ℕ)) (j : ℕ) (d e : List ℕ) → j < length xs → slice_index_or xs j e ≡ slice_index_or xs j d
     default [] j d e l = absurd (omega arith)
@@ -128,16 +132,17 @@ increasing_places (x ∷ xs) d h zero (suc j) l m = all_after x xs h (slice_inde
 increasing_places (x ∷ xs) d h (suc i) (suc j) l m = increasing_places xs d (tail_increases x xs h) i j (omega arith) (omega arith)
 
 -- and each is listed once
-pub increasing_once : (xs : List (List ℕ)) (d : List ℕ) → IsIncreasing xs → (i j : ℕ) → i < length xs → j < length xs → slice_index_or xs i d ≡ slice_index_or xs j d → i ≡ j
-increasing_once xs d h i j li lj e = by (order i j)
+pub increasing_once : (xs : List (List ℕ)) (d : List ℕ) → IsIncreasing xs → (i j : ℕ) → i < length xs → j < length xs
+    → slice_index_or xs i d ≡ slice_index_or xs j d → i ≡ j
+increasing_once xs d h i j li lj e = by (three_ways i j)
   where
-    order : (i j : ℕ) → (i < j) ⊎ ((i ≡ j) ⊎ (j < i))
-    order i j = grind arith
-
     by : ((i < j) ⊎ ((i ≡ j) ⊎ (j < i))) → i ≡ j
-    by (inl l) = absurd (before_irreflexive (slice_index_or xs j d) (subst (λ (w : List ℕ). ComesBefore w (slice_index_or xs j d)) e (increasing_places xs d h i j l lj)))
+    by (inl l) = absurd
+        (before_irreflexive (slice_index_or xs j d) (subst (λ (w : List ℕ). ComesBefore w (slice_index_or xs j d)) e (increasing_places xs d h i j l lj)))
     by (inr (inl s)) = s
-    by (inr (inr l)) = absurd (before_irreflexive (slice_index_or xs i d) (subst (λ (w : List ℕ). ComesBefore w (slice_index_or xs i d)) (sym e) (increasing_places xs d h j i l li)))
+    by (inr (inr l)) =
+        absurd (before_irreflexive (slice_index_or xs i d)
+        (subst (λ (w : List ℕ). ComesBefore w (slice_index_or xs i d)) (sym e) (increasing_places xs d h j i l li)))
 
 -- ---- each of a list, by places
 pub all_from_places : (P : List ℕ → Type 0) (xs : List (List ℕ)) → ((k : ℕ) → k < length xs → P (slice_index_or xs k [])) → All P xs

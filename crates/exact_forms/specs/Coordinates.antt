@@ -25,7 +25,8 @@ pub record IsCoordinates (A : Columns) (B : ℕ → Bool) (c : ℕ → Rational)
   pub sum : (a b : ℕ) → a < A.size → b < A.size → sum_ℚ A.count (λ k. c k *ℚ A.entry k a b) ≡ x a b
 
 pub record IsIndependent (A : Columns) (B : ℕ → Bool) : Type 0 where
-  pub only_zero : (c : ℕ → Rational) → IsCoordinates A B c (λ a b. whole (pos 0)) → (k : ℕ) → k < A.count → c k ≡ whole (pos 0)
+  pub only_zero : (c : ℕ → Rational) → IsCoordinates A B c (λ a b. whole (pos 0)) → (k : ℕ) → k < A.count
+      → c k ≡ whole (pos 0)
 
 pub record IsBasis (A : Columns) (B : ℕ → Bool) (coord : ℕ → ℕ → Rational) : Type 0 where
   pub independent : IsIndependent A B
@@ -41,7 +42,8 @@ swapped B l e = replaced (replaced B l false) e true
 abbrev pub exchanged_coordinates : (ℕ → ℕ → Rational) → ℕ → ℕ → ℕ → ℕ → Rational
 exchanged_coordinates coord l e j k = coord j k +ℚ (coord j l /ℚ coord e l) *ℚ (mark e k +ℚ neg_ℚ (coord e k))
 
-pub record IsShown (A : Columns) (B : ℕ → Bool) (coord : ℕ → ℕ → Rational) (rows : ℕ) (t : ℕ → ℕ → Rational) (basic : ℕ → ℕ) : Type 0 where
+pub record IsShown (A : Columns) (B : ℕ → Bool) (coord : ℕ → ℕ → Rational) (rows : ℕ) (t : ℕ → ℕ → Rational) (basic : ℕ
+    → ℕ) : Type 0 where
   pub entry : (i j : ℕ) → i < rows → j < A.count → t i j ≡ coord j (basic i)
   pub within : (i : ℕ) → i < rows → basic i < A.count
   pub in_basis : (i : ℕ) → i < rows → B (basic i) ≡ true

@@ -38,11 +38,13 @@ pub record IsMinimum (n : ℕ) (q : Matrix) (m : ℤ) (vectors : List (List ℕ)
   pub lists : ListsAttaining n q m vectors
 
 pub record IsPerfect (n : ℕ) (vectors : List (List ℕ)) : Type 0 where
-  pub only_zero : (z : Matrix) → IsSymmetric n z → All (λ v. form n z (coordinate v) ≡ pos 0) vectors → (i j : ℕ) → i < n → j < n → z i j ≡ pos 0
+  pub only_zero : (z : Matrix) → IsSymmetric n z → All (λ v. form n z (coordinate v) ≡ pos 0) vectors → (i j : ℕ)
+      → i < n → j < n → z i j ≡ pos 0
 
 pub record IsExtremeRay (n : ℕ) (r : Matrix) (vectors : List (List ℕ)) : Type 0 where
   pub symmetric : IsSymmetric n r
   pub nonzero : ((i j : ℕ) → i < n → j < n → r i j ≡ pos 0) → ⊥
   pub nonnegative : All (λ v. pos 0 ≤ℤ form n r (coordinate v)) vectors
-  pub extreme : (z : Matrix) → IsSymmetric n z → All (λ v. form n r (coordinate v) ≡ pos 0 → form n z (coordinate v) ≡ pos 0) vectors
+  pub extreme : (z : Matrix) → IsSymmetric n z
+      → All (λ v. form n r (coordinate v) ≡ pos 0 → form n z (coordinate v) ≡ pos 0) vectors
       → (a : ℤ) × (b : ℤ) × (a ≢ pos 0) × ((i j : ℕ) → i < n → j < n → a *ℤ z i j ≡ b *ℤ r i j)

@@ -22,7 +22,8 @@ pub record WeightedVector : Type 0 where
 
 unfoldable pub weighted_sum : List WeightedVector → ℕ → ℕ → Rational
 weighted_sum [] i j = whole (pos 0)
-weighted_sum (term ∷ terms) i j = term.weight *ℚ whole (coordinate term.vector i *ℤ coordinate term.vector j) +ℚ weighted_sum terms i j
+weighted_sum (term ∷ terms) i j =
+    term.weight *ℚ whole (coordinate term.vector i *ℤ coordinate term.vector j) +ℚ weighted_sum terms i j
 
 unfoldable pub inner_ℚ : ℕ → Matrix → (ℕ → ℕ → Rational) → Rational
 inner_ℚ n w a = sum_ℚ n (λ i. sum_ℚ n (λ j. whole (w i j) *ℚ a i j))

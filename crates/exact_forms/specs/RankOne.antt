@@ -15,19 +15,24 @@ use Rattle.exact_forms.specs.Vectors.{coordinate}
 use Rattle.exact_forms.specs.Coordinates.{Columns}
 
 unfoldable pub rank_one_sum : List (List ℕ) → (ℕ → Rational) → ℕ → ℕ → Rational
-rank_one_sum vectors c i j = sum_ℚ (length vectors) (λ k. c k *ℚ whole (coordinate (slice_index_or vectors k []) i *ℤ coordinate (slice_index_or vectors k []) j))
+rank_one_sum vectors c i j =
+    sum_ℚ (length vectors)
+    (λ k. c k *ℚ whole (coordinate (slice_index_or vectors k []) i *ℤ coordinate (slice_index_or vectors k []) j))
 
 pub record AreCoordinates (n : ℕ) (vectors : List (List ℕ)) (c : ℕ → Rational) (a : ℕ → ℕ → Rational) : Type 0 where
   pub sum : (i j : ℕ) → i < n → j < n → rank_one_sum vectors c i j ≡ a i j
 
 pub record AreIndependent (n : ℕ) (vectors : List (List ℕ)) : Type 0 where
-  pub only_zero : (c : ℕ → Rational) → AreCoordinates n vectors c (λ i j. whole (pos 0)) → (k : ℕ) → k < length vectors → c k ≡ whole (pos 0)
+  pub only_zero : (c : ℕ → Rational) → AreCoordinates n vectors c (λ i j. whole (pos 0)) → (k : ℕ) → k < length vectors
+      → c k ≡ whole (pos 0)
 
 pub record HasVectors (A : Columns) (low : ℕ) (vectors : List (List ℕ)) : Type 0 where
   pub within : low + length vectors ≤ A.count
   pub entry : (k i j : ℕ) → k < length vectors → i < A.size → j < A.size
-      → A.entry (low + k) i j ≡ whole (coordinate (slice_index_or vectors k []) i *ℤ coordinate (slice_index_or vectors k []) j)
+      → A.entry (low + k) i j
+      ≡ whole (coordinate (slice_index_or vectors k []) i *ℤ coordinate (slice_index_or vectors k []) j)
 
 pub record HasUnits (A : Columns) : Type 0 where
   pub units : (i j : ℕ) → i < A.size → j < A.size
-      → (k : ℕ) × (t : Rational) × (k < A.count) × ((a b : ℕ) → a < A.size → b < A.size → t *ℚ A.entry k a b ≡ whole (unit_sum i j a b))
+      → (k : ℕ) × (t : Rational) × (k < A.count)
+      × ((a b : ℕ) → a < A.size → b < A.size → t *ℚ A.entry k a b ≡ whole (unit_sum i j a b))

@@ -22,8 +22,20 @@ pub record Rational : Type 0 where
 
 -- over 0 it is taken as over 1
 unfoldable pub ratio : ℤ → ℕ → Rational
-ratio p zero = record { num = divided p (gcd_of (nat_abs p) 1); den = 1 / gcd_of (nat_abs p) 1; positive = part_positive (nat_abs p) 0; lowest = part_lowest p 0 }
-ratio p (suc d) = record { num = divided p (gcd_of (nat_abs p) (suc d)); den = suc d / gcd_of (nat_abs p) (suc d); positive = part_positive (nat_abs p) d; lowest = part_lowest p d }
+ratio p zero =
+    record {
+      num = divided p (gcd_of (nat_abs p) 1);
+      den = 1 / gcd_of (nat_abs p) 1;
+      positive = part_positive (nat_abs p) 0;
+      lowest = part_lowest p 0;
+    }
+ratio p (suc d) =
+    record {
+      num = divided p (gcd_of (nat_abs p) (suc d));
+      den = suc d / gcd_of (nat_abs p) (suc d);
+      positive = part_positive (nat_abs p) d;
+      lowest = part_lowest p d;
+    }
 
 infixl 6 ◌+ℚ◌ ◌-ℚ◌
 infixl 7 ◌*ℚ◌

@@ -7,4 +7,5 @@ use Rattle.exact_forms.specs.Copositive.{Matrix}
 use Rattle.exact_forms.specs.Factors.{WeightedVector, IsFactorization, Separates}
 
 abbrev pub SeparatedIsNotFactored : Type 0
-SeparatedIsNotFactored = (n : ℕ) (w : Matrix) (a : ℕ → ℕ → Rational) (terms : List WeightedVector) → Separates n w a → IsFactorization n a terms → ⊥
+SeparatedIsNotFactored = (n : ℕ) (w : Matrix) (a : ℕ → ℕ → Rational) (terms : List WeightedVector) → Separates n w a
+    → IsFactorization n a terms → ⊥

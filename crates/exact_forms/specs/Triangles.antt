@@ -11,4 +11,5 @@ triangle zero = 0
 triangle (suc n) = triangle n + suc n
 
 unfoldable pub entry_in : {A : Type 0} → A → List A → ℕ → ℕ → A
-entry_in none xs i j = if nat_lt i j then slice_index_or xs (triangle j + i) none else slice_index_or xs (triangle i + j) none
+entry_in none xs i j =
+    if nat_lt i j then slice_index_or xs (triangle j + i) none else slice_index_or xs (triangle i + j) none

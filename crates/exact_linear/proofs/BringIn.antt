@@ -1,6 +1,8 @@
 -- The columns that are brought in, one after the other.
-use Rattle.std.specs.Prelude.{◌≡◌, ◌≢◌, ℕ, zero, suc, ◌+◌, ◌-◌, ◌<◌, ◌≤◌, ◌⊎◌, ℤ, pos, negsuc, Bool, true, false, not, ◌&&◌, nat_eq, nat_lt, List, [], ◌++◌, Option, Some, None, Ok, Err, Result}
+use Rattle.std.specs.Prelude.{◌≡◌, ◌≢◌, ℕ, zero, suc, ◌+◌, ◌-◌, ◌<◌, ◌≤◌, ◌⊎◌, ℤ, pos, negsuc, Bool, true, false, not, ◌&&◌, nat_eq, nat_lt, List, [], ◌++◌}
+use Rattle.std.specs.Prelude.{Option, Some, None, Ok, Err, Result}
 use Rattle.std.proofs.Common.{arith, sym, ◌∙◌, ap, refl, subst, inl, inr}
+use Rattle.commutative_ring.proofs.SmallCases.{below_of_test, next_or_within}
 use Rattle.exact_forms.specs.Rational.{Rational, whole}
 use Rattle.exact_forms.proofs.Lowest.{zero_num}
 use Rattle.symmetric_matrix.specs.Owed.{answer}
@@ -58,12 +60,10 @@ pub record IsTaken (t : Table) (c i : ℕ) : Type 0 where
 pub takes_is : (t : Table) (c i : ℕ) → takes t c i ≡ true → (basic_at t i < rows_of t) × (table_entry t i c ≢ whole (pos 0))
 takes_is t c i h = by (nat_lt (basic_at t i) (rows_of t)) refl (is_zero (table_entry t i c)) refl h
   where
-    of_true : (k low : ℕ) → nat_lt k low ≡ true → k < low
-    of_true k low e = grind arith
-
-    by : (a : Bool) → nat_lt (basic_at t i) (rows_of t) ≡ a → (b : Bool) → is_zero (table_entry t i c) ≡ b → (a && not b) ≡ true → (basic_at t i < rows_of t) × (table_entry t i c ≢ whole (pos 0))
+    by : (a : Bool) → nat_lt (basic_at t i) (rows_of t) ≡ a → (b : Bool) → is_zero (table_entry t i c) ≡ b → (a && not b) ≡ true
+        → (basic_at t i < rows_of t) × (table_entry t i c ≢ whole (pos 0))
     by true e true f h = absurd cc
-    by true e false f h = (of_true _ _ e, not_zero_is (table_entry t i c) f)
+    by true e false f h = (below_of_test _ _ e, not_zero_is (table_entry t i c) f)
     by false e b f h = absurd cc
 
 pub row_taken : (t : Table) (c i : ℕ) → first_row t c ≡ Some i → IsTaken t c i
@@ -94,14 +94,16 @@ pub brought_shape : (t : Table) (c : ℕ) → ((brought_in t c).width ≡ t.widt
 brought_shape t c = by (first_row t c) refl
   where
     by : (o : Option ℕ) → first_row t c ≡ o → ((brought_in t c).width ≡ t.width) × (rows_of (brought_in t c) ≡ rows_of t)
-    by (Some i) h = let e = (bring_some t c i h).1 in (ap (λ (t : Table). t.width) e ∙ exchanged_width t i c, ap (λ (t : Table). rows_of t) e ∙ exchanged_rows t i c)
+    by (Some i) h = let e = (bring_some t c i h).1 in
+        (ap (λ (t : Table). t.width) e ∙ exchanged_width t i c, ap (λ (t : Table). rows_of t) e ∙ exchanged_rows t i c)
     by None h = let e = (bring_none t c h).1 in (ap (λ (t : Table). t.width) e, ap (λ (t : Table). rows_of t) e)
 
 pub first_bases_none : (t : Table) → (first_bases t 0 ≡ t) × (first_ops t 0 ≡ [])
 unfolding first_bases first_ops
 first_bases_none t = (refl, refl)
 
-pub first_bases_more : (t : Table) (k : ℕ) → (first_bases t (k + 1) ≡ brought_in (first_bases t k) (rows_of t + k)) × (first_ops t (k + 1) ≡ first_ops t k ++ bring_ops (first_bases t k) (rows_of t + k))
+pub first_bases_more : (t : Table) (k : ℕ) → (first_bases t (k + 1) ≡ brought_in (first_bases t k) (rows_of t + k))
+    × (first_ops t (k + 1) ≡ first_ops t k ++ bring_ops (first_bases t k) (rows_of t + k))
 unfolding first_bases first_ops
 first_bases_more t k = let e : k + 1 ≡ suc k = omega arith in (rw e refl, rw e refl)
 
@@ -115,14 +117,13 @@ first_shape t (suc k) =
     (ap (λ (t : Table). t.width) e ∙ s.0 ∙ r.0, ap (λ (t : Table). rows_of t) e ∙ s.1 ∙ r.1)
 
 -- what refuses a beginning refuses the whole
-pub first_refused : (t : Table) (k n : ℕ) (err : EntryOp) → answer entry_is_owed (first_ops t k) (tt {0}) ≡ Err err → k ≤ n → answer entry_is_owed (first_ops t n) (tt {0}) ≡ Err err
+pub first_refused : (t : Table) (k n : ℕ) (err : EntryOp) → answer entry_is_owed (first_ops t k) (tt {0}) ≡ Err err → k ≤ n
+    → answer entry_is_owed (first_ops t n) (tt {0}) ≡ Err err
 first_refused t k zero err h l = subst (λ (k : ℕ). answer entry_is_owed (first_ops t k) (tt {0}) ≡ Err err) (let e : k ≡ 0 = omega arith in e) h
-first_refused t k (suc n) err h l = by (last_or_before k n l) (λ m. first_refused t k n err h m)
+first_refused t k (suc n) err h l = by (next_or_within k n l) (λ m. first_refused t k n err h m)
   where
-    last_or_before : (k n : ℕ) → k ≤ suc n → (k ≡ suc n) ⊎ (k ≤ n)
-    last_or_before k n l = grind arith
-
-    by : ((k ≡ suc n) ⊎ (k ≤ n)) → (k ≤ n → answer entry_is_owed (first_ops t n) (tt {0}) ≡ Err err) → answer entry_is_owed (first_ops t (suc n)) (tt {0}) ≡ Err err
+    by : ((k ≡ suc n) ⊎ (k ≤ n)) → (k ≤ n → answer entry_is_owed (first_ops t n) (tt {0}) ≡ Err err)
+        → answer entry_is_owed (first_ops t (suc n)) (tt {0}) ≡ Err err
     by (inl e) rec = subst (λ (k : ℕ). answer entry_is_owed (first_ops t k) (tt {0}) ≡ Err err) e h
     by (inr m) rec =
         let s : suc n ≡ n + 1 = omega arith in
@@ -137,18 +138,25 @@ pub record IsSoFar (t now : Table) (k : ℕ) : Type 0 where
 pub so_far_none : (t : Table) → IsSoFar t t 0
 so_far_none t =
     let e = first_bases_none t in
-    record { table = sym e.0; owes = ap (λ (ops : List EntryOp). answer entry_is_owed ops (tt {0})) e.1 ∙ answer_nothing entry_is_owed (tt {0}); coordinates = λ A h. h }
+    record {
+      table = sym e.0;
+      owes = ap (λ (ops : List EntryOp). answer entry_is_owed ops (tt {0})) e.1 ∙ answer_nothing entry_is_owed (tt {0});
+      coordinates = λ A h. h;
+    }
 
-pub so_far_ops : (t now : Table) (k : ℕ) → IsSoFar t now k → answer entry_is_owed (first_ops t (k + 1)) (tt {0}) ≡ answer entry_is_owed (bring_ops now (rows_of t + k)) (tt {0})
+pub so_far_ops : (t now : Table) (k : ℕ) → IsSoFar t now k
+    → answer entry_is_owed (first_ops t (k + 1)) (tt {0}) ≡ answer entry_is_owed (bring_ops now (rows_of t + k)) (tt {0})
 so_far_ops t now k S =
     ap (λ (ops : List EntryOp). answer entry_is_owed ops (tt {0})) (first_bases_more t k).1
     ∙ (answer-append_ok entry_is_owed (first_ops t k) (bring_ops (first_bases t k) (rows_of t + k)) (tt {0}) (tt {0}) (tt {0}) S.owes).0
     ∙ ap (λ (now : Table). answer entry_is_owed (bring_ops now (rows_of t + k)) (tt {0})) (sym S.table)
 
-pub so_far_refused : (t now : Table) (k n : ℕ) (err : EntryOp) → IsSoFar t now k → k < n → answer entry_is_owed (bring_ops now (rows_of t + k)) (tt {0}) ≡ Err err → answer entry_is_owed (first_ops t n) (tt {0}) ≡ Err err
+pub so_far_refused : (t now : Table) (k n : ℕ) (err : EntryOp) → IsSoFar t now k → k < n
+    → answer entry_is_owed (bring_ops now (rows_of t + k)) (tt {0}) ≡ Err err → answer entry_is_owed (first_ops t n) (tt {0}) ≡ Err err
 so_far_refused t now k n err S l h = first_refused t (k + 1) n err (so_far_ops t now k S ∙ h) (omega arith)
 
-pub so_far_more : (t now new : Table) (k : ℕ) → IsSoFar t now k → answer entry_is_owed (bring_ops now (rows_of t + k)) (tt {0}) ≡ Ok (tt {0}) → new ≡ brought_in now (rows_of t + k)
+pub so_far_more : (t now new : Table) (k : ℕ) → IsSoFar t now k → answer entry_is_owed (bring_ops now (rows_of t + k)) (tt {0}) ≡ Ok (tt {0})
+    → new ≡ brought_in now (rows_of t + k)
     → ((A : Columns) → HasCoordinates A now → HasCoordinates A new) → IsSoFar t new (k + 1)
 so_far_more t now new k S h e c = record {
   table = e ∙ ap (λ (now : Table). brought_in now (rows_of t + k)) S.table ∙ sym (first_bases_more t k).0;

@@ -1,16 +1,14 @@
 -- The entries of the table after an exchange.
 use Rattle.std.specs.Prelude.{◌≡◌, ℕ, zero, suc, ◌+◌, ◌*◌, ◌-◌, ◌<◌, ◌≤◌, ◌⊎◌, pos, List, [], ◌∷◌, length, drop}
 use Rattle.std.proofs.Common.{arith, ◌∙◌, ap, ap₂, refl, mul-le-mul, inl, inr, get_or-take, get_or-drop, length-drop, length-take-le}
+use Rattle.commutative_ring.proofs.SmallCases.{at_most_itself, three_ways}
 use Rattle.exact_forms.specs.Rational.{Rational, whole, ◌/ℚ◌}
 use Rattle.exact_linear.specs.Tables.{Table, entry_of, table_entry}
 use Rattle.exact_linear.specs.Exchange.{divided_row, new_cell, rest_cells, next_row, next_column, table_row, pivot_row, table_cells, exchanged}
-use Rattle.exact_linear.proofs.Rows.{next_inside, next_after, last_column, le_refl}
-
-three_ways : (i j : ℕ) → (i < j) ⊎ ((i ≡ j) ⊎ (j < i))
-three_ways i j = grind arith
+use Rattle.exact_linear.proofs.Rows.{next_inside, next_after, last_column}
 
 pub below_row : (i a w : ℕ) → i < a → i * w + w ≤ a * w
-below_row i a w l = let m : i + 1 ≤ a = omega arith in let p : (i + 1) * w ≤ a * w = mul-le-mul m (le_refl w) in omega arith
+below_row i a w l = let m : i + 1 ≤ a = omega arith in let p : (i + 1) * w ≤ a * w = mul-le-mul m (at_most_itself w) in omega arith
 
 -- a place has one row and one column
 pub same_place : (i j a b w : ℕ) → i * w + j ≡ a * w + b → j < w → b < w → (i ≡ a) × (j ≡ b)
@@ -33,8 +31,11 @@ rest_at r c w new old (x ∷ xs) i j (suc n) a b l lj lb e = by (inside_or_not j
     inside_or_not : (j w : ℕ) → (j + 1 < w) ⊎ (w ≤ j + 1)
     inside_or_not j w = grind arith
 
-    by : ((j + 1 < w) ⊎ (w ≤ j + 1)) → ((i j n a b : ℕ) → n < length xs → j < w → b < w → i * w + j + n ≡ a * w + b → entry_of (rest_cells r c w new old xs i j) n ≡ new_cell r a (entry_of xs n) (entry_of old (a * w + c)) (entry_of new b))
-        → entry_of (rest_cells r c w new old xs (next_row w i j) (next_column w i j)) n ≡ new_cell r a (entry_of xs n) (entry_of old (a * w + c)) (entry_of new b)
+    by : ((j + 1 < w) ⊎ (w ≤ j + 1))
+        → ((i j n a b : ℕ) → n < length xs → j < w → b < w → i * w + j + n ≡ a * w + b
+        → entry_of (rest_cells r c w new old xs i j) n ≡ new_cell r a (entry_of xs n) (entry_of old (a * w + c)) (entry_of new b))
+        → entry_of (rest_cells r c w new old xs (next_row w i j) (next_column w i j)) n
+        ≡ new_cell r a (entry_of xs n) (entry_of old (a * w + c)) (entry_of new b)
     by (inl m) rec = let s = next_inside w i j m in rw (s.0, s.1) (rec i (j + 1) n a b (omega arith) m lb (omega arith))
     by (inr m) rec =
         let s = next_after w i j m in
@@ -64,7 +65,8 @@ unfolding exchanged table_cells pivot_row
 exchanged_entry t rows r c i j e lr li lc lj =
     let w : ℕ = t.width in
     let p : i * w + w ≤ rows * w = below_row i rows w li in
-    rest_at r c w (divided_row (entry_of t.entries (r * w + c)) (table_row w t.entries r)) t.entries t.entries 0 0 (i * w + j) i j (omega arith) (omega arith) lj (omega arith)
+    rest_at r c w (divided_row (entry_of t.entries (r * w + c)) (table_row w t.entries r)) t.entries t.entries 0 0 (i * w + j) i j (omega arith) (omega arith)
+    lj (omega arith)
     ∙ ap (λ (y : Rational). new_cell r i (table_entry t i j) (table_entry t i c) y)
     (divided_at (entry_of t.entries (r * w + c)) (table_row w t.entries r) j (let q = row_length w r rows t.entries e lr in omega arith)
     ∙ ap (λ (x : Rational). x /ℚ table_entry t r c) (row_at w r j t.entries lj))

@@ -7,8 +7,8 @@ use Prim.Native.Nat.{◌∣◌}
 use native.Mathlib.Nat.{div-mul_cancel, div-le_self, dvd-mul_left, dvd-mul_right}
 use Rattle.commutative_ring.specs.Gcd.{gcd_of, divided}
 use Rattle.commutative_ring.proofs.Gcd.{gcd_of_is, dvd_of_dvd-mul}
-use Rattle.commutative_ring.proofs.Coprime.{gcd_comm}
-use Rattle.commutative_ring.proofs.Lowest.{nat_abs-divided, part_times, parts_lowest}
+use Rattle.commutative_ring.proofs.Coprime.{gcd_comm, parts_coprime}
+use Rattle.commutative_ring.proofs.Lowest.{nat_abs-divided, part_times}
 use Rattle.exact_forms.specs.Rational.{Rational, ratio}
 use Rattle.exact_forms.proofs.Rational.{den_positive, ratio_value}
 use Rattle.symmetric_matrix.specs.Owed.{answer}
@@ -62,10 +62,6 @@ ratios_product_fits p r d e v hd he hn hm =
 -- ---- sums
 cancel_right : (a b g : ℕ) → 0 < g → a * g ≡ b * g → a ≡ b
 cancel_right a b g h e = grind arith
-
-parts_coprime : (a d : ℕ) → 0 < d → gcd_of (a / gcd_of a d) (d / gcd_of a d) ≡ 1
-parts_coprime a zero h = absurd (omega arith)
-parts_coprime a (suc d) h = parts_lowest a d
 
 -- the least common multiple divides each common multiple
 pub multiple_divides : (b d e : ℕ) → 0 < d → b ∣ e → d ∣ e → b * (d / gcd_of b d) ∣ e

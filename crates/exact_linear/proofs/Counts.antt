@@ -10,7 +10,9 @@ use Rattle.std.proofs.lemmas.Map.Made.{IsDistinct-from_AllPairs, is_member-Decid
 -- where no two of xs are the same and each is one of ys, there are no more of them
 pub no_more : (xs ys : List ℕ) → ((i j : ℕ) → i < j → j < length xs → slice_index_or xs i 0 ≢ slice_index_or xs j 0)
     → ((i : ℕ) → i < length xs → (j : ℕ) × (j < length ys) × (slice_index_or ys j 0 ≡ slice_index_or xs i 0)) → length xs ≤ length ys
-no_more xs ys apart each = length-le_from_is_member nat_eq_equiv xs ys (IsDistinct-from_AllPairs unsigned_Decides xs pairs) (λ q h. (is_member-Decides unsigned_Decides ys q).1 (found q ((is_member-Decides unsigned_Decides xs q).0 h)))
+no_more xs ys apart each =
+    length-le_from_is_member nat_eq_equiv xs ys (IsDistinct-from_AllPairs unsigned_Decides xs pairs)
+    (λ q h. (is_member-Decides unsigned_Decides ys q).1 (found q ((is_member-Decides unsigned_Decides xs q).0 h)))
   where
     pairs : AllPairs (λ x y. x ≢ y) xs
     pairs = λ i j d h l e. apart i j h l (sym (get_or_default_zero xs i d (omega arith)) ∙ e ∙ get_or_default_zero xs j d l)

@@ -10,15 +10,18 @@ use Rattle.exact_linear.specs.declared.entry.EntryOp.{EntryOp}
 use Rattle.exact_linear.specs.declared.entry.EntryPart.TheVariants.{Divide, Multiply, Subtract}
 use Rattle.exact_linear.specs.Exchange.{entry_is_owed, placed, divide_entry, multiply_entry, subtract_entry, clear_entry}
 
-pub divide_tagged : (i j : ℕ) (x y : Rational) → tagged (placed i j Divide x y) (answer is_owed (div_ops x y) ((x /ℚ y))) ≡ answer entry_is_owed (divide_entry i j x y) ((x /ℚ y))
+pub divide_tagged : (i j : ℕ) (x y : Rational)
+    → tagged (placed i j Divide x y) (answer is_owed (div_ops x y) ((x /ℚ y))) ≡ answer entry_is_owed (divide_entry i j x y) ((x /ℚ y))
 unfolding divide_entry
 divide_tagged i j x y = answer_tagged is_owed entry_is_owed (placed i j Divide x y) (div_ops x y) ((x /ℚ y)) (λ o. refl)
 
-pub multiply_tagged : (i j : ℕ) (x y : Rational) → tagged (placed i j Multiply x y) (answer is_owed (mul_ops x y) (x *ℚ y)) ≡ answer entry_is_owed (multiply_entry i j x y) (x *ℚ y)
+pub multiply_tagged : (i j : ℕ) (x y : Rational)
+    → tagged (placed i j Multiply x y) (answer is_owed (mul_ops x y) (x *ℚ y)) ≡ answer entry_is_owed (multiply_entry i j x y) (x *ℚ y)
 unfolding multiply_entry
 multiply_tagged i j x y = answer_tagged is_owed entry_is_owed (placed i j Multiply x y) (mul_ops x y) (x *ℚ y) (λ o. refl)
 
-pub subtract_tagged : (i j : ℕ) (x y : Rational) → tagged (placed i j Subtract x y) (answer is_owed (sub_ops x y) ((x -ℚ y))) ≡ answer entry_is_owed (subtract_entry i j x y) ((x -ℚ y))
+pub subtract_tagged : (i j : ℕ) (x y : Rational)
+    → tagged (placed i j Subtract x y) (answer is_owed (sub_ops x y) ((x -ℚ y))) ≡ answer entry_is_owed (subtract_entry i j x y) ((x -ℚ y))
 unfolding subtract_entry
 subtract_tagged i j x y = answer_tagged is_owed entry_is_owed (placed i j Subtract x y) (sub_ops x y) ((x -ℚ y)) (λ o. refl)
 

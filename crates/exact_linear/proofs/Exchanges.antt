@@ -3,12 +3,13 @@ use Rattle.std.specs.Prelude.{◌≡◌, ◌≢◌, ℕ, ◌<◌, pos, Bool, tru
 use Rattle.std.proofs.Common.{arith, sym, ◌∙◌, ap, refl, subst, inl, inr}
 use Rattle.std.proofs.lemmas.List.{length-set, get_or-set_same, get_or-set_other}
 use Rattle.commutative_ring.proofs.Ring.{num, ◌⊕◌, ◌⊗◌, neg, v0, v1}
+use Rattle.commutative_ring.proofs.SmallCases.{same_or_not, true_or_false}
 use Rattle.exact_forms.specs.Rational.{Rational, whole, ◌*ℚ◌, ◌-ℚ◌, ◌/ℚ◌}
 use Rattle.exact_forms.proofs.Rational.{ring_ℚ, div-mul}
-use Rattle.exact_forms.proofs.Slacks.{replaced_here, same_or_not}
+use Rattle.exact_forms.proofs.Slacks.{replaced_here}
 use Rattle.exact_forms.proofs.Signs.{positive_not_zero, one_positive}
 use Rattle.exact_forms.specs.Coordinates.{Columns, IsShown, mark, swapped, exchanged_coordinates}
-use Rattle.exact_forms.proofs.Coordinates.{basis_mark, mark_off, exchange_keeps, true_or_false}
+use Rattle.exact_forms.proofs.Coordinates.{basis_mark, mark_off, exchange_keeps}
 use Rattle.exact_forms.proofs.Shown.{exchange_shown, IsTableExchange}
 use Rattle.exact_linear.specs.Tables.{Table, IsRectangle, rows_of, table_entry, basic_at}
 use Rattle.exact_linear.specs.Columns.{HasCoordinates}
@@ -31,7 +32,7 @@ pub exchanged_basic_other : (t : Table) (r c i : ℕ) → i ≢ r → basic_at (
 unfolding exchanged
 exchanged_basic_other t r c i n = get_or-set_other t.basic r i c 0 n
 
-new_here : (r i : ℕ) (x f y : Rational) → i ≡ r → new_cell r i x f y ≡ y
+pub new_here : (r i : ℕ) (x f y : Rational) → i ≡ r → new_cell r i x f y ≡ y
 unfolding new_cell
 new_here r i x f y e = let t : nat_eq i r ≡ true = grind arith in rw t
 
@@ -53,13 +54,15 @@ exchanged_is t count r c R e lr lc = record {
 
 -- x / 1
 pub by_one : (x y : Rational) → y ≡ whole (pos 1) → x /ℚ y ≡ x
-by_one x y e = ring_ℚ ((x /ℚ y) ∷ []) v0 (v0 ⊗ num (pos 1)) refl ∙ ap (λ w. (x /ℚ y) *ℚ w) (sym e) ∙ div-mul x y (λ z. positive_not_zero (whole (pos 1)) one_positive (sym e ∙ z))
+by_one x y e = ring_ℚ ((x /ℚ y) ∷ []) v0 (v0 ⊗ num (pos 1)) refl ∙ ap (λ w. (x /ℚ y) *ℚ w) (sym e)
+    ∙ div-mul x y (λ z. positive_not_zero (whole (pos 1)) one_positive (sym e ∙ z))
 
 less_nothing : (x y : Rational) → x -ℚ whole (pos 0) *ℚ y ≡ x
 unfolding ◌-ℚ◌
 less_nothing x y = ring_ℚ (x ∷ y ∷ []) (v0 ⊕ neg (num (pos 0) ⊗ v1)) v0 refl
 
-module _ (A : Columns) (t : Table) (H : HasCoordinates A t) (r c : ℕ) (R : IsRectangle t) (lr : r < rows_of t) (lc : c < t.width) (ne : table_entry t r c ≢ whole (pos 0)) where
+module _ (A : Columns) (t : Table) (H : HasCoordinates A t) (r c : ℕ) (R : IsRectangle t) (lr : r < rows_of t) (lc : c < t.width)
+    (ne : table_entry t r c ≢ whole (pos 0)) where
   c_within : c < A.count
   c_within = let e = H.width in omega arith
 
@@ -119,12 +122,20 @@ module _ (A : Columns) (t : Table) (H : HasCoordinates A t) (r c : ℕ) (R : IsR
   exchange_coordinates = by (true_or_false (H.basis c))
     where
       by : ((H.basis c ≡ true) ⊎ (H.basis c ≡ false)) → HasCoordinates A (exchanged t r c)
-      by (inl b) = record { basis = H.basis; coord = H.coord; width = H.width ∙ sym (exchanged_width t r c); is_basis = H.is_basis; shown = as_rows H.basis H.coord (stays b) }
+      by (inl b) = record {
+        basis = H.basis;
+        coord = H.coord;
+        width = H.width ∙ sym (exchanged_width t r c);
+        is_basis = H.is_basis;
+        shown = as_rows H.basis H.coord (stays b);
+      }
       by (inr f) = record {
         basis = swapped H.basis (basic_at t r) c;
         coord = exchanged_coordinates H.coord (basic_at t r) c;
         width = H.width ∙ sym (exchanged_width t r c);
-        is_basis = exchange_keeps A H.basis H.coord (basic_at t r) c (H.shown.within r lr) c_within (H.shown.in_basis r lr) f (λ e. ne (H.shown.entry r c lr c_within ∙ e)) H.is_basis;
+        is_basis = exchange_keeps A H.basis H.coord (basic_at t r) c (H.shown.within r lr) c_within (H.shown.in_basis r lr) f
+            (λ e. ne (H.shown.entry r c lr c_within ∙ e)) H.is_basis;
         shown = as_rows (swapped H.basis (basic_at t r) c) (exchanged_coordinates H.coord (basic_at t r) c)
-            (exchange_shown A H.basis H.coord (rows_of t) (table_entry t) (basic_at t) H.is_basis H.shown r c lr c_within f (table_entry (exchanged t r c)) (basic_at (exchanged t r c)) table_exchange);
+            (exchange_shown A H.basis H.coord (rows_of t) (table_entry t) (basic_at t) H.is_basis H.shown r c lr c_within f (table_entry (exchanged t r c))
+            (basic_at (exchanged t r c)) table_exchange);
       }

@@ -1,10 +1,10 @@
 -- Lists of entries, row by row.
-use Rattle.std.specs.Prelude.{◌≡◌, ◌≢◌, ℕ, ◌+◌, ◌*◌, ◌/◌, ◌%◌, ◌<◌, ◌≤◌, ◌⊎◌, pos, true, false, nat_eq, List, [], ◌∷◌, map, length, set, ◌++◌, if◌then◌else◌}
+use Rattle.std.specs.Prelude.{◌≡◌, ◌≢◌, ℕ, ◌+◌, ◌*◌, ◌/◌, ◌%◌, ◌<◌, ◌≤◌, ◌⊎◌, pos, true, false, nat_eq, List, length, set, if◌then◌else◌}
 use Rattle.std.proofs.Common.{arith, sym, ◌∙◌, ap, ap₂, refl, subst, inl, inr, mod-lt}
 use Rattle.std.proofs.lemmas.List.{get_or-set_same, get_or-set_other}
-use Rattle.std.proofs.lemmas.List.FromFn.{length-map-range_with_len, get_or-map-range_with_len, fill_by_all, map-range_with_len_more}
+use Rattle.std.proofs.lemmas.List.FromFn.{length-map-range_with_len, get_or-map-range_with_len, fill_by_all}
 use native.Mathlib.Nat.{div-add-mod'}
-use Rattle.std.specs.List.{range_with_len}
+use Rattle.commutative_ring.proofs.SmallCases.{here_or_before}
 use Rattle.exact_forms.specs.Rational.{Rational, whole}
 use Rattle.exact_linear.specs.Tables.{entry_of, cells}
 use Rattle.exact_linear.proofs.Cells.{same_place, below_row}
@@ -15,7 +15,8 @@ length-cells rows width f = length-map-range_with_len (λ k. f (k / width) (k % 
 
 pub place_parts : (i j width : ℕ) → j < width → ((i * width + j) / width ≡ i) × ((i * width + j) % width ≡ j)
 place_parts i j width l =
-    same_place ((i * width + j) / width) ((i * width + j) % width) i j width (div-add-mod' (i * width + j) width) (mod-lt (i * width + j) (let p : 0 < width = omega arith in p)) l
+    same_place ((i * width + j) / width) ((i * width + j) % width) i j width (div-add-mod' (i * width + j) width)
+    (mod-lt (i * width + j) (let p : 0 < width = omega arith in p)) l
 
 pub cells_at : (rows width : ℕ) (f : ℕ → ℕ → Rational) (i j : ℕ) → i < rows → j < width → entry_of (cells rows width f) (i * width + j) ≡ f i j
 unfolding cells
@@ -33,13 +34,11 @@ pub record Filled (width : ℕ) (old now : List Rational) (k : ℕ) : Type 0 whe
   pub done : (m : ℕ) → m < k → entry_of now m ≡ last_cell width old (m / width) (m % width)
   pub rest : (m : ℕ) → k ≤ m → entry_of now m ≡ entry_of old m
 
-last_or_before : (m k : ℕ) → m < k + 1 → (m ≡ k) ⊎ (m < k)
-last_or_before m k l = grind arith
-
-pub fill_set : (width k : ℕ) (old now : List Rational) → k < length now → k % width + 1 ≡ width → Filled width old now k → Filled width old (set now k (whole (pos 1))) (k + 1)
+pub fill_set : (width k : ℕ) (old now : List Rational) → k < length now → k % width + 1 ≡ width → Filled width old now k
+    → Filled width old (set now k (whole (pos 1))) (k + 1)
 unfolding last_cell
 fill_set width k old now l e F = record {
-  done = λ m h. by m (last_or_before m k h);
+  done = λ m h. by m (here_or_before m k h);
   rest = λ m h. get_or-set_other now k m (whole (pos 1)) (whole (pos 0)) (omega arith) ∙ F.rest m (omega arith);
 }
   where
@@ -53,12 +52,13 @@ fill_set width k old now l e F = record {
 pub fill_keep : (width k : ℕ) (old now : List Rational) → k % width + 1 ≢ width → Filled width old now k → Filled width old now (k + 1)
 unfolding last_cell
 fill_keep width k old now n F = record {
-  done = λ m h. by m (last_or_before m k h);
+  done = λ m h. by m (here_or_before m k h);
   rest = λ m h. F.rest m (omega arith);
 }
   where
     here : entry_of now k ≡ last_cell width old (k / width) (k % width)
-    here = F.rest k (omega arith) ∙ ap (λ (m : ℕ). entry_of old m) (sym (div-add-mod' k width)) ∙ (let t : nat_eq (k % width + 1) width ≡ false = grind arith in rw t refl)
+    here = F.rest k (omega arith) ∙ ap (λ (m : ℕ). entry_of old m) (sym (div-add-mod' k width))
+        ∙ (let t : nat_eq (k % width + 1) width ≡ false = grind arith in rw t refl)
 
     by : (m : ℕ) → ((m ≡ k) ⊎ (m < k)) → entry_of now m ≡ last_cell width old (m / width) (m % width)
     by m (inl s) = subst (λ (m : ℕ). entry_of now m ≡ last_cell width old (m / width) (m % width)) (sym s) here
@@ -68,12 +68,5 @@ pub fill_all : (rows width k : ℕ) (old now : List Rational) → length now ≡
     → now ≡ cells rows width (λ i j. if nat_eq (j + 1) width then whole (pos 1) else entry_of old (i * width + j))
 unfolding cells last_cell
 fill_all rows width k old now s l F =
-    fill_by_all (λ m. if nat_eq (m % width + 1) width then whole (pos 1) else entry_of old (m / width * width + m % width)) now (rows * width) (whole (pos 0)) s (λ m h. F.done m (omega arith))
-
-pub range_more : (a n : ℕ) → range_with_len a (n + 1) ≡ range_with_len a n ++ (a + n) ∷ []
-range_more a n =
-    sym (map_id (range_with_len a (n + 1))) ∙ map-range_with_len_more (λ (x : ℕ). x) a n (a + n) refl ∙ ap (λ (xs : List ℕ). xs ++ (a + n) ∷ []) (map_id (range_with_len a n))
-  where
-    map_id : (xs : List ℕ) → map (λ (x : ℕ). x) xs ≡ xs
-    map_id [] = refl
-    map_id (x ∷ xs) = ap (λ (ys : List ℕ). x ∷ ys) (map_id xs)
+    fill_by_all (λ m. if nat_eq (m % width + 1) width then whole (pos 1) else entry_of old (m / width * width + m % width)) now (rows * width) (whole (pos 0)) s
+    (λ m h. F.done m (omega arith))

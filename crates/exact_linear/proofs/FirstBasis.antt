@@ -3,15 +3,16 @@ use Rattle.std.specs.Prelude.{◌≡◌, ◌≢◌, ℕ, ◌+◌, ◌<◌, ◌�
 use Rattle.std.proofs.Common.{arith, sym, ◌∙◌, ap, ap₂, refl, subst, inl, inr}
 use Rattle.exact_forms.proofs.RationalSums.{sum_ℚ_none}
 use Rattle.commutative_ring.proofs.Ring.{num, ◌⊕◌, ◌⊗◌, neg, v0, v1}
+use Rattle.commutative_ring.proofs.SmallCases.{same_or_not, true_or_false}
 use Rattle.exact_forms.specs.Slacks.{replaced}
 use Rattle.exact_forms.specs.Rational.{Rational, whole, inverse, neg_ℚ, ◌+ℚ◌, ◌*ℚ◌, ◌/ℚ◌}
 use Rattle.exact_forms.proofs.Rational.{zero_mul_ℚ, mul-inverse}
-use Rattle.exact_forms.proofs.Slacks.{replaced_here, replaced_other, same_or_not}
+use Rattle.exact_forms.proofs.Slacks.{replaced_here, replaced_other}
 use Rattle.exact_forms.proofs.Rational.{ring_ℚ}
 use Rattle.exact_forms.specs.Coordinates.{Columns, mark, swapped, exchanged_coordinates}
 use Rattle.exact_linear.specs.FirstBasis.{IsCombinationBelow}
 use Rattle.exact_linear.proofs.SoFar.{IsFirstSoFar}
-use Rattle.exact_forms.proofs.Coordinates.{mul_zero_ℚ, mark_off, read_off, exchange_keeps, true_or_false}
+use Rattle.exact_forms.proofs.Coordinates.{mul_zero_ℚ, mark_off, read_off, exchange_keeps}
 
 zero_quotient : (x y : Rational) → x ≡ whole (pos 0) → x /ℚ y ≡ whole (pos 0)
 unfolding ◌/ℚ◌
@@ -108,11 +109,9 @@ module _ (A : Columns) (low c : ℕ) (B : ℕ → Bool) (coord : ℕ → ℕ →
           ap₂ (λ x y. coord c w +ℚ x *ℚ (y +ℚ neg_ℚ (coord c w))) one (mark_off A c w (omega arith))
           ∙ ring_ℚ (coord c w ∷ []) (v0 ⊕ num (pos 1) ⊗ (num (pos 0) ⊕ neg v0)) (num (pos 0)) refl
 
-      cleared : (j w : ℕ) → low ≤ j → w < low → swapped B u c w ≡ true → ((j ≡ c) ⊎ (j < c)) → ((w ≡ u) ⊎ (w ≢ u)) → exchanged_coordinates coord u c j w ≡ whole (pos 0)
+      cleared : (j w : ℕ) → low ≤ j → w < low → swapped B u c w ≡ true → ((j ≡ c) ⊎ (j < c)) → ((w ≡ u) ⊎ (w ≢ u))
+          → exchanged_coordinates coord u c j w ≡ whole (pos 0)
       cleared j w a lw t d (inl s) = absurd (let x = replaced_here B u false w s in let y = replaced_other (replaced B u false) c true w (omega arith) in cc)
-      cleared j w a lw t (inl e) (inr n) = ap (λ (j : ℕ). exchanged_coordinates coord u c j w) e ∙ of_c w lw (itself (coord c u) ne)
-        where
-          itself : (x : Rational) → x ≢ whole (pos 0) → x /ℚ x ≡ whole (pos 1)
-          itself x n = quotient_self x n
+      cleared j w a lw t (inl e) (inr n) = ap (λ (j : ℕ). exchanged_coordinates coord u c j w) e ∙ of_c w lw (quotient_self (coord c u) ne)
       cleared j w a lw t (inr l) (inr n) =
           unchanged j w (S.cleared j u a l lu bu) ∙ S.cleared j w a l lw (sym (as_before w n (omega arith)) ∙ t)

@@ -1,11 +1,11 @@
 -- The tables that the first columns come into show the first basis.
-use Rattle.std.specs.Prelude.{◌≡◌, ℕ, zero, suc, ◌+◌, ◌<◌, ◌≤◌, ◌⊎◌, pos, Bool, true, false, nat_lt, nat_eq, List, Option, Some, None}
+use Rattle.std.specs.Prelude.{◌≡◌, ℕ, zero, suc, ◌+◌, ◌<◌, ◌≤◌, ◌⊎◌, pos, Bool, true, false, nat_lt, List, Option, Some, None}
 use Rattle.std.proofs.Common.{arith, sym, ◌∙◌, ap, refl, subst, inl, inr}
+use Rattle.commutative_ring.proofs.SmallCases.{same_of_test, true_or_false}
 use Rattle.exact_forms.specs.Rational.{Rational, whole, ◌*ℚ◌}
 use Rattle.exact_forms.specs.Triangles.{triangle}
 use Rattle.exact_forms.specs.Coordinates.{Columns, IsBasis, IsShown, swapped, exchanged_coordinates}
 use Rattle.exact_forms.proofs.RationalSums.{sum_ℚ_same}
-use Rattle.exact_forms.proofs.Coordinates.{true_or_false}
 use Rattle.exact_forms.proofs.Shown.{exchange_shown}
 use Rattle.symmetric_matrix.specs.Symmetric.{Symmetric}
 use Rattle.exact_linear.specs.Tables.{Table, IsRectangle, rows_of, table_entry, basic_at, first_place, holds, row_of, is_there, is_basic, coordinate_in}
@@ -57,9 +57,13 @@ module _ (A : Columns) (low c : ℕ) (t : Table) (F : IsFirstTable A low c t) (l
   taken r T = record {
     basis = swapped F.basis (basic_at t r) c;
     coord = exchanged_coordinates F.coord (basic_at t r) c;
-    first = first_taken A low c F.basis F.coord F.first lo lc (basic_at t r) (let u = T.unit in let w = F.rows in omega arith) (F.shown.in_basis r T.row) (λ z. T.not_zero (F.shown.entry r c T.row lc ∙ z));
-    shown = subst (λ (n : ℕ). IsShown A (swapped F.basis (basic_at t r) c) (exchanged_coordinates F.coord (basic_at t r) c) n (table_entry (exchanged t r c)) (basic_at (exchanged t r c))) (sym (exchanged_rows t r c))
-        (exchange_shown A F.basis F.coord (rows_of t) (table_entry t) (basic_at t) F.first.basis F.shown r c T.row lc (F.first.later c (omega arith) lc) (table_entry (exchanged t r c)) (basic_at (exchanged t r c))
+    first = first_taken A low c F.basis F.coord F.first lo lc (basic_at t r) (let u = T.unit in let w = F.rows in
+        omega arith) (F.shown.in_basis r T.row) (λ z. T.not_zero (F.shown.entry r c T.row lc ∙ z));
+    shown = subst
+        (λ (n : ℕ). IsShown A (swapped F.basis (basic_at t r) c) (exchanged_coordinates F.coord (basic_at t r) c) n (table_entry (exchanged t r c))
+        (basic_at (exchanged t r c))) (sym (exchanged_rows t r c))
+        (exchange_shown A F.basis F.coord (rows_of t) (table_entry t) (basic_at t) F.first.basis F.shown r c T.row lc (F.first.later c (omega arith) lc)
+        (table_entry (exchanged t r c)) (basic_at (exchanged t r c))
         (exchanged_is t A.count r c F.rectangle F.width T.row within));
     rectangle = exchanged_rectangle t r c F.rectangle T.row within;
     width = F.width ∙ sym (exchanged_width t r c);
@@ -78,7 +82,8 @@ module _ (A : Columns) (low c : ℕ) (t : Table) (F : IsFirstTable A low c t) (l
 
 pub first_tables : (A : Columns) (low : ℕ) (t : Table) (k : ℕ) → IsFirstTable A low low t → low + k ≤ A.count → IsFirstTable A low (low + k) (first_bases t k)
 first_tables A low t zero F l =
-    subst (λ (c : ℕ). IsFirstTable A low c (first_bases t 0)) (let e : low ≡ low + 0 = omega arith in e) (subst (λ (t : Table). IsFirstTable A low low t) (sym (first_bases_none t).0) F)
+    subst (λ (c : ℕ). IsFirstTable A low c (first_bases t 0)) (let e : low ≡ low + 0 = omega arith in
+    e) (subst (λ (t : Table). IsFirstTable A low low t) (sym (first_bases_none t).0) F)
 first_tables A low t (suc k) F l =
     let n : suc k ≡ k + 1 = omega arith in
     subst (λ (c : ℕ). IsFirstTable A low c (first_bases t (suc k))) (let e : low + k + 1 ≡ low + suc k = omega arith in e)
@@ -102,7 +107,8 @@ start_first n given = record {
 basis_as : (A : Columns) (B C : ℕ → Bool) (coord other : ℕ → ℕ → Rational) → ((k : ℕ) → k < A.count → B k ≡ C k)
     → ((j k : ℕ) → j < A.count → k < A.count → coord j k ≡ other j k) → IsBasis A B coord → IsBasis A C other
 basis_as A B C coord other same equal H = record {
-  independent = record { only_zero = λ c h k l. H.independent.only_zero c record { outside = λ i li b. h.outside i li (sym (same i li) ∙ b); sum = h.sum } k l };
+  independent =
+      record { only_zero = λ c h k l. H.independent.only_zero c record { outside = λ i li b. h.outside i li (sym (same i li) ∙ b); sum = h.sum } k l };
   written = λ j lj. record {
     outside = λ k lk b. sym (equal j k lj lk) ∙ (H.written j lj).outside k lk (same k lk ∙ b);
     sum = λ a b la lb. sum_ℚ_same A.count _ _ (λ k lk. ap (λ w. w *ℚ A.entry k a b) (sym (equal j k lj lk))) ∙ (H.written j lj).sum a b la lb;
@@ -125,9 +131,6 @@ module _ (A : Columns) (low c : ℕ) (t : Table) (F : IsFirstTable A low c t) (l
   unfolding row_of
   coord_in j k lj lk = by (first_place (holds t k) 0 (rows_of t)) refl
     where
-      of_true : (a b : ℕ) → nat_eq a b ≡ true → a ≡ b
-      of_true a b e = grind arith
-
       by : (o : Option ℕ) → first_place (holds t k) 0 (rows_of t) ≡ o
           → F.coord j k ≡ elim (first_place (holds t k) 0 (rows_of t)) as (λ _. Rational) [ None ↦ whole (pos 0) | Some i ↦ table_entry t i j ]
       by None e =
@@ -135,7 +138,7 @@ module _ (A : Columns) (low c : ℕ) (t : Table) (F : IsFirstTable A low c t) (l
           ∙ sym (ap (λ (o : Option ℕ). elim o as (λ _. Rational) [ None ↦ whole (pos 0) | Some i ↦ table_entry t i j ]) e)
       by (Some i) e =
           let f = first_found (holds t k) 0 (rows_of t) i e in
-          ap (F.coord j) (sym (of_true (basic_at t i) k f.passes)) ∙ sym (F.shown.entry i j (let b = f.below in omega arith) lj)
+          ap (F.coord j) (sym (same_of_test (basic_at t i) k f.passes)) ∙ sym (F.shown.entry i j (let b = f.below in omega arith) lj)
           ∙ sym (ap (λ (o : Option ℕ). elim o as (λ _. Rational) [ None ↦ whole (pos 0) | Some i ↦ table_entry t i j ]) e)
 
   read_first_basis : IsFirstBasis A low c (is_basic t)

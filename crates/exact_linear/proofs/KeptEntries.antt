@@ -1,21 +1,25 @@
 -- The entries that are kept, and what an exchange makes of them.
-use Rattle.std.specs.Prelude.{◌≡◌, ◌≢◌, ℕ, zero, suc, ◌+◌, ◌*◌, ◌<◌, ◌≤◌, ◌^◌, ℤ, pos, negsuc, nat_abs, ◌≤ℤ◌, List, [], ◌∷◌, ◌++◌, length, get_or, take, drop, set, Bool, ◌⊎◌, Option, Some, None, Result, Ok, Err}
+use Rattle.std.specs.Prelude.{◌≡◌, ◌≢◌, ℕ, zero, suc, ◌+◌, ◌*◌, ◌<◌, ◌≤◌, ◌^◌, ℤ, pos, negsuc, nat_abs, ◌≤ℤ◌, List, [], ◌∷◌, ◌++◌, length, get_or, take, drop}
+use Rattle.std.specs.Prelude.{set, Bool, ◌⊎◌, Option, Some, None, Result, Ok, Err}
 use Rattle.std.proofs.Common.{arith, sym, ◌∙◌, ap, refl, subst, to_z, of_z, to_z-of_z, FitsSigned, inl, inr, drop_of_length-le, append-nil, take_all}
 use Rattle.std.proofs.lemmas.Int.{ints}
 use mir.Syntax.{w64, w128}
 use Rattle.std.proofs.lemmas.List.{length-map, map-set, get_or-set_same, get_or-set_other}
 use Rattle.commutative_ring.proofs.Ring.{ring, num, v0, ◌⊗◌}
+use Rattle.commutative_ring.proofs.SmallCases.{positive_abs, same_or_not}
 use Rattle.exact_forms.specs.Rational.{Rational, ratio, whole}
 use Rattle.exact_forms.proofs.Rational.{ratio_same, ratio_parts}
+use Rattle.exact_forms.proofs.Lists.{drop_at}
 use Rattle.symmetric_matrix.specs.Owed.{answer, first_owed}
 use Rattle.symmetric_matrix.proofs.Owed.{answer_is_first_owed, none_of_ok}
 use Rattle.exact_linear.specs.Tables.{entry_of}
 use Rattle.exact_linear.specs.Whole.{fractions_over, whole_at, AreSmallWholes, entries_in}
-use Rattle.exact_linear.specs.Exchange.{entry_is_owed, table_ops, table_cells, rest_cells, pivot_row, next_row, next_column}
+use Rattle.exact_linear.specs.Exchange.{entry_is_owed, table_ops, table_cells, pivot_row}
 use Rattle.exact_linear.proofs.Results.{read_map}
-use Rattle.exact_linear.proofs.Rows.{at_drop, joined}
+use Rattle.exact_linear.proofs.Rows.{joined}
 use Rattle.exact_linear.proofs.NothingOwed.{IsScale, nothing_owed}
-use Rattle.exact_linear.proofs.WholeEntries.{fractions_entry, entries_over, pivot_over, at_least_one_positive, small_back, wide_back}
+use Rattle.exact_linear.proofs.WholeEntries.{fractions_entry, entries_over, pivot_over}
+use Rattle.exact_linear.proofs.Rectangles.{rest_length}
 
 pub kept_wholes : (d : ℤ) (ws : List ℤ) (xs : List Rational) → pos 1 ≤ℤ d → entries_in d ws xs ≡ fractions_over (nat_abs d) ws
 unfolding entries_in
@@ -49,16 +53,13 @@ pub fraction_written : (d k : ℕ) (ws : List ℤ) (into : List Rational) → 0 
     → take k into ++ drop k (fractions_over d ws) ≡ take (k + 1) (set into k (ratio (whole_at ws k) d)) ++ drop (k + 1) (fractions_over d ws)
 fraction_written d k ws into h l s =
     let size : length (fractions_over d ws) ≡ length ws = length-map ws (λ (w : ℤ). ratio w d) in
-    rw (at_drop (fractions_over d ws) k (ratio (whole_at ws k) d) (omega arith)
+    rw (drop_at (fractions_over d ws) k (ratio (whole_at ws k) d) (omega arith)
     (sym (read_map (λ (w : ℤ). ratio w d) ws k (pos 0) (ratio (whole_at ws k) d) l)))
     (joined into k (ratio (whole_at ws k) d) (drop (k + 1) (fractions_over d ws)) (omega arith))
 
 pub ok_of_none : {O V : Type 0} (owed : O → Bool) (ops : List O) (v : V) → first_owed owed ops ≡ None → Ok v ≡ answer owed ops v
 ok_of_none {O} {V} owed ops v e =
     sym (answer_is_first_owed owed ops v ∙ ap (λ (f : Option O). elim f as (λ _. Result V O) [ None ↦ Ok v | Some op ↦ Err op ]) e)
-
-pub wide_small_back : (z : ℤ) → nat_abs z < 2 ^ 63 → to_z w128 (of_z w128 (to_z w64 (of_z w64 z))) ≡ z
-wide_small_back z h = rw (small_back z h) (wide_back z (let k : nat_abs z < 2 ^ 127 = omega arith in k))
 
 pub kept_size : (all : List Rational) (den : ℤ) (ws : List ℤ) (xs : List Rational) (n : ℕ) → all ≡ entries_in den ws xs → length xs ≡ length ws
     → length all ≡ n → length ws ≡ n
@@ -71,7 +72,7 @@ kept_over all den ws xs v h = v ∙ kept_wholes den ws xs h
 pub kept_pivot : (all : List Rational) (den : ℤ) (ws : List ℤ) (xs : List Rational) (k : ℕ) → all ≡ entries_in den ws xs → pos 1 ≤ℤ den
     → entry_of all k ≢ whole (pos 0) → whole_at ws k ≢ pos 0
 kept_pivot all den ws xs k v h ne =
-    whole_some (nat_abs den) k ws (at_least_one_positive den h)
+    whole_some (nat_abs den) k ws (positive_abs den h)
     (subst (λ (all : List Rational). entry_of all k ≢ whole (pos 0)) (kept_over all den ws xs v h) ne)
 
 pub kept_owes : (w r c : ℕ) (all : List Rational) (den : ℤ) (ws : List ℤ) (xs : List Rational) → all ≡ entries_in den ws xs → pos 1 ≤ℤ den
@@ -80,7 +81,7 @@ pub kept_owes : (w r c : ℕ) (all : List Rational) (den : ℤ) (ws : List ℤ) 
 kept_owes w r c all den ws xs v h l s ne =
     subst (λ (all : List Rational). first_owed entry_is_owed (table_ops w all r c) ≡ None) (sym (kept_over all den ws xs v h))
     (none_of_ok entry_is_owed (table_ops w (fractions_over (nat_abs den) ws) r c) (tt {0}) (tt {0})
-    (whole_owes_nothing w r c (nat_abs den) ws (record { positive = at_least_one_positive den h; small = l }) s
+    (whole_owes_nothing w r c (nat_abs den) ws (record { positive = positive_abs den h; small = l }) s
     (kept_pivot all den ws xs (r * w + c) v h ne))).0
 
 pub above_zero : (den : ℤ) → pos 0 ≤ℤ den → den ≢ pos 0 → pos 1 ≤ℤ den
@@ -106,7 +107,7 @@ pub taken_whole : (k : ℕ) (from : List Rational) (into : List ℤ) (x : Ration
     → take k (fractions_over 1 into) ++ drop k from ≡ take (k + 1) (fractions_over 1 (set into k w)) ++ drop (k + 1) from
 taken_whole k from into x w l s e is =
     let size : length (fractions_over 1 into) ≡ length into = length-map into (λ (w : ℤ). ratio w 1) in
-    ap (λ (t : List Rational). take k (fractions_over 1 into) ++ t) (at_drop from k x l e)
+    ap (λ (t : List Rational). take k (fractions_over 1 into) ++ t) (drop_at from k x l e)
     ∙ joined (fractions_over 1 into) k x (drop (k + 1) from) (omega arith)
     ∙ ap (λ (t : List Rational). take (k + 1) t ++ drop (k + 1) from)
     (ap (λ (x : Rational). set (fractions_over 1 into) k x) is ∙ sym (map-set (λ (w : ℤ). ratio w 1) into k w))
@@ -114,9 +115,6 @@ taken_whole k from into x w l s e is =
 pub set_small : (ws : List ℤ) (k : ℕ) (w : ℤ) → k < length ws → AreSmallWholes ws → nat_abs w < 2 ^ 63 → AreSmallWholes (set ws k w)
 set_small ws k w l h s = record { small = λ m. by m (same_or_not m k) }
   where
-    same_or_not : (m k : ℕ) → (m ≡ k) ⊎ (m ≢ k)
-    same_or_not m k = grind arith
-
     by : (m : ℕ) → ((m ≡ k) ⊎ (m ≢ k)) → nat_abs (whole_at (set ws k w) m) < 2 ^ 63
     by m (inl e) = rw (e, get_or-set_same ws k w (pos 0) l) s
     by m (inr n) = rw (get_or-set_other ws k m w (pos 0) n) (h.small m)
@@ -136,14 +134,9 @@ kept_ones ws xs h = h
 pub whole_is : (x : Rational) (w : ℤ) → x.num ≡ w → x.den ≡ 1 → x ≡ ratio w 1
 whole_is x w n d = sym (ratio_parts x) ∙ ap (λ (n : ℤ). ratio n x.den) n ∙ ap (λ (d : ℕ). ratio w d) d
 
-length-rest : (r c w : ℕ) (new old xs : List Rational) (i j : ℕ) → length (rest_cells r c w new old xs i j) ≡ length xs
-unfolding rest_cells
-length-rest r c w new old [] i j = refl
-length-rest r c w new old (x ∷ xs) i j = ap suc (length-rest r c w new old xs (next_row w i j) (next_column w i j))
-
 pub length-table_cells : (w r c : ℕ) (old : List Rational) → length (table_cells w old r c) ≡ length old
 unfolding table_cells
-length-table_cells w r c old = length-rest r c w (pivot_row w old r c) old old 0 0
+length-table_cells w r c old = rest_length r c w (pivot_row w old r c) old old 0 0
 
 -- ---- 1 in a place
 one_over : (den : ℤ) → pos 1 ≤ℤ den → ratio den (nat_abs den) ≡ whole (pos 1)

@@ -1,6 +1,8 @@
 -- Lists of the places that pass a test, and sums over listed columns.
-use Rattle.std.specs.Prelude.{◌≡◌, ◌≢◌, ℕ, zero, suc, ◌+◌, ◌<◌, ◌≤◌, ◌⊎◌, pos, Bool, true, false, ◌||◌, nat_eq, List, [], ◌∷◌, length, slice_index_or, Option, Some, None, if◌then◌else◌}
+use Rattle.std.specs.Prelude.{◌≡◌, ◌≢◌, ℕ, zero, suc, ◌+◌, ◌<◌, ◌≤◌, ◌⊎◌, pos, Bool, true, false, ◌||◌, nat_eq, List, [], ◌∷◌, length, slice_index_or, Option}
+use Rattle.std.specs.Prelude.{Some, None, if◌then◌else◌}
 use Rattle.std.proofs.Common.{arith, sym, ◌∙◌, ap, refl, inl, inr}
+use Rattle.commutative_ring.proofs.SmallCases.{here_or_after, same_of_test, test_of_same}
 use Rattle.exact_forms.specs.Rational.{Rational, whole, ◌*ℚ◌}
 use Rattle.exact_forms.specs.Sums.{sum_ℚ}
 use Rattle.exact_forms.specs.Coordinates.{mark}
@@ -22,36 +24,42 @@ unfolding places_where
 places_pass test i zero k l = absurd (omega arith)
 places_pass test i (suc n) k l = by (test i) refl k (λ k l. places_pass test (i + 1) n k l) l
   where
-    by : (b : Bool) → test i ≡ b → (k : ℕ) → ((k : ℕ) → k < length (places_where test (i + 1) n) → IsPassing test (i + 1) n (slice_index_or (places_where test (i + 1) n) k 0))
+    by : (b : Bool) → test i ≡ b → (k : ℕ)
+        → ((k : ℕ) → k < length (places_where test (i + 1) n) → IsPassing test (i + 1) n (slice_index_or (places_where test (i + 1) n) k 0))
         → k < length (if b then i ∷ places_where test (i + 1) n else places_where test (i + 1) n)
         → IsPassing test i (suc n) (slice_index_or (if b then i ∷ places_where test (i + 1) n else places_where test (i + 1) n) k 0)
     by true e zero rec l = record { passes = e; from = omega arith; below = omega arith }
-    by true e (suc k) rec l = let r = rec k (omega arith) in record { passes = r.passes; from = let a = r.from in omega arith; below = let b = r.below in omega arith }
+    by true e (suc k) rec l = let r = rec k (omega arith) in
+        record { passes = r.passes; from = let a = r.from in omega arith; below = let b = r.below in omega arith }
     by false e k rec l = let r = rec k l in record { passes = r.passes; from = let a = r.from in omega arith; below = let b = r.below in omega arith }
 
-pub places_increase : (test : ℕ → Bool) (i n j k : ℕ) → j < k → k < length (places_where test i n) → slice_index_or (places_where test i n) j 0 < slice_index_or (places_where test i n) k 0
+pub places_increase : (test : ℕ → Bool) (i n j k : ℕ) → j < k → k < length (places_where test i n)
+    → slice_index_or (places_where test i n) j 0 < slice_index_or (places_where test i n) k 0
 unfolding places_where
 places_increase test i zero j k h l = absurd (omega arith)
 places_increase test i (suc n) j k h l = by (test i) j k (λ j k h l. places_increase test (i + 1) n j k h l) h l
   where
-    by : (b : Bool) (j k : ℕ) → ((j k : ℕ) → j < k → k < length (places_where test (i + 1) n) → slice_index_or (places_where test (i + 1) n) j 0 < slice_index_or (places_where test (i + 1) n) k 0)
+    by : (b : Bool) (j k : ℕ)
+        → ((j k : ℕ) → j < k → k < length (places_where test (i + 1) n)
+        → slice_index_or (places_where test (i + 1) n) j 0 < slice_index_or (places_where test (i + 1) n) k 0)
         → j < k → k < length (if b then i ∷ places_where test (i + 1) n else places_where test (i + 1) n)
-        → slice_index_or (if b then i ∷ places_where test (i + 1) n else places_where test (i + 1) n) j 0 < slice_index_or (if b then i ∷ places_where test (i + 1) n else places_where test (i + 1) n) k 0
+        → slice_index_or (if b then i ∷ places_where test (i + 1) n else places_where test (i + 1) n) j 0 < slice_index_or
+        (if b then i ∷ places_where test (i + 1) n else places_where test (i + 1) n) k 0
     by true j zero rec h l = absurd (omega arith)
     by true zero (suc k) rec h l = let p = (places_pass test (i + 1) n k (omega arith)).from in omega arith
     by true (suc j) (suc k) rec h l = rec j k (omega arith) (omega arith)
     by false j k rec h l = rec j k h l
 
-pub places_all : (test : ℕ → Bool) (i n c : ℕ) → test c ≡ true → i ≤ c → c < i + n → (k : ℕ) × (k < length (places_where test i n)) × (slice_index_or (places_where test i n) k 0 ≡ c)
+pub places_all : (test : ℕ → Bool) (i n c : ℕ) → test c ≡ true → i ≤ c → c < i + n
+    → (k : ℕ) × (k < length (places_where test i n)) × (slice_index_or (places_where test i n) k 0 ≡ c)
 unfolding places_where
 places_all test i zero c h f b = absurd (omega arith)
 places_all test i (suc n) c h f b = by (test i) refl (here_or_after i c f) (λ l. places_all test (i + 1) n c h l (omega arith))
   where
-    here_or_after : (i c : ℕ) → i ≤ c → (c ≡ i) ⊎ (i + 1 ≤ c)
-    here_or_after i c l = grind arith
-
-    by : (x : Bool) → test i ≡ x → ((c ≡ i) ⊎ (i + 1 ≤ c)) → (i + 1 ≤ c → (k : ℕ) × (k < length (places_where test (i + 1) n)) × (slice_index_or (places_where test (i + 1) n) k 0 ≡ c))
-        → (k : ℕ) × (k < length (if x then i ∷ places_where test (i + 1) n else places_where test (i + 1) n)) × (slice_index_or (if x then i ∷ places_where test (i + 1) n else places_where test (i + 1) n) k 0 ≡ c)
+    by : (x : Bool) → test i ≡ x → ((c ≡ i) ⊎ (i + 1 ≤ c))
+        → (i + 1 ≤ c → (k : ℕ) × (k < length (places_where test (i + 1) n)) × (slice_index_or (places_where test (i + 1) n) k 0 ≡ c))
+        → (k : ℕ) × (k < length (if x then i ∷ places_where test (i + 1) n else places_where test (i + 1) n))
+        × (slice_index_or (if x then i ∷ places_where test (i + 1) n else places_where test (i + 1) n) k 0 ≡ c)
     by true e (inl s) rec = (0, omega arith, sym s)
     by true e (inr l) rec = let r = rec l in (suc r.0, (let a = r.1 in omega arith), r.2)
     by false e (inl s) rec = absurd (let t : test c ≡ test i = ap test s in cc)
@@ -74,11 +82,9 @@ pub contained : (cs : List ℕ) (x : ℕ) → contains cs x ≡ true → (k : �
 contained [] x h = absurd cc
 contained (c ∷ cs) x h = by (nat_eq c x) refl h (contained cs x)
   where
-    of_true : (a b : ℕ) → nat_eq a b ≡ true → a ≡ b
-    of_true a b e = grind arith
-
-    by : (b : Bool) → nat_eq c x ≡ b → (b || contains cs x) ≡ true → (contains cs x ≡ true → (k : ℕ) × (k < length cs) × (slice_index_or cs k 0 ≡ x)) → (k : ℕ) × (k < length (c ∷ cs)) × (slice_index_or (c ∷ cs) k 0 ≡ x)
-    by true e h rec = (0, omega arith, of_true c x e)
+    by : (b : Bool) → nat_eq c x ≡ b → (b || contains cs x) ≡ true → (contains cs x ≡ true → (k : ℕ) × (k < length cs) × (slice_index_or cs k 0 ≡ x))
+        → (k : ℕ) × (k < length (c ∷ cs)) × (slice_index_or (c ∷ cs) k 0 ≡ x)
+    by true e h rec = (0, omega arith, same_of_test c x e)
     by false e h rec = let r = rec h in (suc r.0, (let a = r.1 in omega arith), r.2)
 
 -- ---- basic columns
@@ -86,22 +92,16 @@ pub basic_row : (t : Table) (c : ℕ) → is_basic t c ≡ true → (i : ℕ) ×
 unfolding row_of
 basic_row t c h = by (first_place (holds t c) 0 (rows_of t)) refl h
   where
-    of_true : (a b : ℕ) → nat_eq a b ≡ true → a ≡ b
-    of_true a b e = grind arith
-
     by : (o : Option ℕ) → first_place (holds t c) 0 (rows_of t) ≡ o → is_there o ≡ true → (i : ℕ) × (i < rows_of t) × (basic_at t i ≡ c)
     by None e h = absurd cc
-    by (Some i) e h = let f = first_found (holds t c) 0 (rows_of t) i e in (i, (let b = f.below in omega arith), of_true (basic_at t i) c f.passes)
+    by (Some i) e h = let f = first_found (holds t c) 0 (rows_of t) i e in (i, (let b = f.below in omega arith), same_of_test (basic_at t i) c f.passes)
 
 pub row_basic : (t : Table) (c i : ℕ) → i < rows_of t → basic_at t i ≡ c → is_basic t c ≡ true
 unfolding row_of
 row_basic t c i l s = by (first_place (holds t c) 0 (rows_of t)) refl
   where
-    held : (a b : ℕ) → a ≡ b → nat_eq a b ≡ true
-    held a b e = grind arith
-
     by : (o : Option ℕ) → first_place (holds t c) 0 (rows_of t) ≡ o → is_there (first_place (holds t c) 0 (rows_of t)) ≡ true
-    by None e = absurd (let f = first_none (holds t c) 0 (rows_of t) e i (omega arith) (omega arith) in let g = held (basic_at t i) c s in cc)
+    by None e = absurd (let f = first_none (holds t c) 0 (rows_of t) e i (omega arith) (omega arith) in let g = test_of_same (basic_at t i) c s in cc)
     by (Some i) e = ap is_there e
 
 -- ---- a sum over listed columns

@@ -1,8 +1,10 @@
 -- Over one denominator no operation of an exchange is owed, where the whole numbers and the denominator are small.
-use Rattle.std.specs.Prelude.{◌≡◌, ◌≢◌, ℕ, zero, suc, ◌+◌, ◌*◌, ◌<◌, ◌≤◌, ◌^◌, ℤ, pos, negsuc, neg_ℤ, nat_abs, ◌*ℤ◌, nat_eq, Bool, true, false, List, [], ◌∷◌, ◌++◌, take, drop, ◌-◌, length, Ok, if◌then◌else◌}
+use Rattle.std.specs.Prelude.{◌≡◌, ◌≢◌, ℕ, zero, suc, ◌+◌, ◌*◌, ◌<◌, ◌≤◌, ◌^◌, ℤ, pos, negsuc, neg_ℤ, nat_abs, ◌*ℤ◌, nat_eq, Bool, true, false, List, [], ◌∷◌}
+use Rattle.std.specs.Prelude.{◌++◌, take, drop, ◌-◌, length, Ok, if◌then◌else◌}
 use Rattle.std.proofs.Common.{arith, sym, ◌∙◌, ap, ap₂, refl, subst, mul-pos, mul-le-mul, get_or-drop}
 use Rattle.std.proofs.lemmas.Int.{ints, unsigned_abs-mul}
 use Rattle.commutative_ring.proofs.Ring.{ring, num, neg, v0, v1, v2, ◌⊗◌}
+use Rattle.commutative_ring.proofs.SmallCases.{nat_abs-neg}
 use Rattle.exact_forms.specs.Rational.{Rational, ratio, whole, inverse, neg_ℚ, ◌*ℚ◌, ◌/ℚ◌}
 use Rattle.exact_forms.proofs.Rational.{ratio_same, mul-ratio, neg-ratio, mul-inverse, one_mul_ℚ, ring_ℚ}
 use Rattle.symmetric_matrix.specs.Owed.{answer}
@@ -13,7 +15,8 @@ use Rattle.exact_linear.proofs.CommonDenominators.{ratios_product_fits, ratios_s
 use Rattle.exact_linear.specs.declared.entry.EntryPart.TheVariants.{Divide, Multiply, Subtract}
 use Rattle.exact_linear.specs.Tables.{entry_of}
 use Rattle.exact_linear.specs.Whole.{turned}
-use Rattle.exact_linear.specs.Exchange.{entry_is_owed, placed, divide_entry, multiply_entry, subtract_entry, clear_entry, divide_ops, divided_row, cell_ops, rest_ops, next_row, next_column, table_row, pivot_row, table_ops}
+use Rattle.exact_linear.specs.Exchange.{entry_is_owed, placed, divide_entry, multiply_entry, subtract_entry, clear_entry, divide_ops, divided_row, cell_ops}
+use Rattle.exact_linear.specs.Exchange.{rest_ops, next_row, next_column, table_row, pivot_row, table_ops}
 
 -- ---- x = w/d with w small
 pub record IsOver (d : ℕ) (x : Rational) : Type 0 where
@@ -136,9 +139,6 @@ widened w d e hd he = ratio_same w (w *ℤ pos e) d (d * e) hd (mul-pos hd he) (
 opposite_product : (f y : ℤ) (d e : ℕ) → 0 < d → 0 < e → neg_ℚ (ratio f d *ℚ ratio y e) ≡ ratio (neg_ℤ (f *ℤ y)) (d * e)
 opposite_product f y d e hd he = ap neg_ℚ (mul-ratio f y d e hd he) ∙ neg-ratio (f *ℤ y) (d * e) (mul-pos hd he)
 
-abs-neg : (z : ℤ) → nat_abs (neg_ℤ z) ≡ nat_abs z
-abs-neg z = grind (arith, ints)
-
 subtract_fits : (i j d e : ℕ) (x f y : Rational) → IsScale d → IsScale e → IsOver d x → IsOver d f → IsOver e y
     → answer entry_is_owed (subtract_entry i j x (f *ℚ y)) (tt {0}) ≡ Ok (tt {0})
 unfolding subtract_entry sub_ops
@@ -148,7 +148,7 @@ subtract_fits i j d e x f y hd he a b c =
     (a.is ∙ widened a.num d e hd.positive he.positive)
     (ap₂ (λ (f : Rational) (y : Rational). neg_ℚ (f *ℚ y)) b.is c.is ∙ opposite_product b.num c.num d e hd.positive he.positive)
     ∙ ratios_sum_fits (a.num *ℤ pos e) (neg_ℤ (b.num *ℤ c.num)) (d * e) (tt {0}) (mul-pos hd.positive he.positive)
-    (rw (abs-neg (b.num *ℤ c.num), unsigned_abs-mul a.num (pos e), unsigned_abs-mul b.num c.num)
+    (rw (nat_abs-neg (b.num *ℤ c.num), unsigned_abs-mul a.num (pos e), unsigned_abs-mul b.num c.num)
     (products_below (nat_abs a.num) e (nat_abs b.num) (nat_abs c.num) a.small he.small b.small c.small))
     (product_below d e hd.small he.small))).0
 

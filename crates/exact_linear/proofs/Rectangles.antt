@@ -1,9 +1,9 @@
 -- Tables stay rectangles.
 use Rattle.std.specs.Prelude.{◌≡◌, ◌≢◌, ℕ, suc, ◌+◌, ◌*◌, ◌<◌, ◌⊎◌, pos, nat_eq, List, [], ◌∷◌, length, if◌then◌else◌}
 use Rattle.std.proofs.Common.{arith, sym, ◌∙◌, ap, ap₂, refl, inl, inr}
+use Rattle.commutative_ring.proofs.SmallCases.{same_or_not}
 use Rattle.exact_forms.specs.Rational.{Rational, whole}
 use Rattle.exact_forms.specs.Triangles.{triangle}
-use Rattle.exact_forms.proofs.Slacks.{same_or_not}
 use Rattle.symmetric_matrix.specs.Symmetric.{Symmetric}
 use Rattle.exact_linear.specs.Tables.{Table, IsRectangle, rows_of, table_entry, basic_at}
 use Rattle.exact_linear.specs.Columns.{start_cell, width_of, start_table, with_sum}
@@ -12,7 +12,7 @@ use Rattle.exact_linear.proofs.Fill.{length-cells}
 use Rattle.exact_linear.proofs.Exchanges.{exchanged_rows, exchanged_width, exchanged_basic_here, exchanged_basic_other}
 use Rattle.exact_linear.proofs.StartTable.{start_rows, start_basic}
 
-rest_length : (r c w : ℕ) (new old xs : List Rational) (i j : ℕ) → length (rest_cells r c w new old xs i j) ≡ length xs
+pub rest_length : (r c w : ℕ) (new old xs : List Rational) (i j : ℕ) → length (rest_cells r c w new old xs i j) ≡ length xs
 unfolding rest_cells
 rest_length r c w new old [] i j = refl
 rest_length r c w new old (x ∷ xs) i j = ap (λ (n : ℕ). suc n) (rest_length r c w new old xs (next_row w i j) (next_column w i j))
@@ -29,7 +29,8 @@ exchanged_rectangle t r c R lr lc = record {
 }
   where
     by : (i : ℕ) → i < rows_of t → ((i ≡ r) ⊎ (i ≢ r)) → basic_at (exchanged t r c) i < (exchanged t r c).width
-    by i l (inl s) = let e : basic_at (exchanged t r c) i ≡ c = ap (λ (i : ℕ). basic_at (exchanged t r c) i) s ∙ exchanged_basic_here t r c lr in let w = exchanged_width t r c in omega arith
+    by i l (inl s) = let e : basic_at (exchanged t r c) i ≡ c = ap (λ (i : ℕ). basic_at (exchanged t r c) i) s ∙ exchanged_basic_here t r c lr in let w =
+        exchanged_width t r c in omega arith
     by i l (inr n) = let e = exchanged_basic_other t r c i n in let b = R.within i l in let w = exchanged_width t r c in omega arith
 
 pub summed_rectangle : (t : Table) → IsRectangle t → IsRectangle (with_sum t)

@@ -1,5 +1,6 @@
 -- A loop that looks for the first place, or gathers the places, that pass a test: what is left answers the same.
-use Rattle.std.specs.Prelude.{◌≡◌, ◌≢◌, ℕ, suc, ◌+◌, ◌-◌, ◌<◌, ◌≤◌, Bool, true, false, List, [], ◌∷◌, ◌++◌, length, drop, get_or, Option, Some, None, if◌then◌else◌}
+use Rattle.std.specs.Prelude.{◌≡◌, ◌≢◌, ℕ, suc, ◌+◌, ◌-◌, ◌<◌, ◌≤◌, Bool, true, false, List, [], ◌∷◌, ◌++◌, length, drop, get_or, Option, Some, None}
+use Rattle.std.specs.Prelude.{if◌then◌else◌}
 use Rattle.std.proofs.Common.{arith, sym, ◌∙◌, ap, ap₂, refl, append_assoc, append-nil, drop-cons}
 use Rattle.exact_linear.specs.Tables.{Table, rows_of, basic_at, first_place, places_where, holds, row_of, from_one, contains}
 use Rattle.exact_linear.proofs.Places.{place_here, place_later, place_nowhere}
@@ -30,17 +31,20 @@ pub record IsGathered (whole so_far : List ℕ) (test : ℕ → Bool) (i n : ℕ
   pub same : so_far ++ places_where test i (n - i) ≡ whole
 
 pub gather_start : (test : ℕ → Bool) (i m : ℕ) (xs : List ℕ) → xs ≡ [] → IsGathered (places_where test i m) xs test i (i + m)
-gather_start test i m xs e = record { same = ap (λ (xs : List ℕ). xs ++ places_where test i ((i + m) - i)) e ∙ ap (λ (k : ℕ). places_where test i k) (sym (back i m)) }
+gather_start test i m xs e =
+    record { same = ap (λ (xs : List ℕ). xs ++ places_where test i ((i + m) - i)) e ∙ ap (λ (k : ℕ). places_where test i k) (sym (back i m)) }
 
 one_more : (i n : ℕ) → i < n → n - i ≡ suc (n - (i + 1))
 one_more i n l = omega arith
 
-pub gather_take : (whole xs ys : List ℕ) (test : ℕ → Bool) (i n : ℕ) → IsGathered whole xs test i n → i < n → test i ≡ true → ys ≡ xs ++ i ∷ [] → IsGathered whole ys test (i + 1) n
+pub gather_take : (whole xs ys : List ℕ) (test : ℕ → Bool) (i n : ℕ) → IsGathered whole xs test i n → i < n → test i ≡ true → ys ≡ xs ++ i ∷ []
+    → IsGathered whole ys test (i + 1) n
 unfolding places_where
 gather_take whole xs ys test i n G l t e = record {
   same =
       ap (λ (ys : List ℕ). ys ++ places_where test (i + 1) (n - (i + 1))) e ∙ append_assoc xs (i ∷ []) (places_where test (i + 1) (n - (i + 1)))
-      ∙ sym (ap (λ (k : ℕ). xs ++ places_where test i k) (one_more i n l) ∙ ap (λ (b : Bool). xs ++ (if b then i ∷ places_where test (i + 1) (n - (i + 1)) else places_where test (i + 1) (n - (i + 1)))) t)
+      ∙ sym (ap (λ (k : ℕ). xs ++ places_where test i k) (one_more i n l)
+      ∙ ap (λ (b : Bool). xs ++ (if b then i ∷ places_where test (i + 1) (n - (i + 1)) else places_where test (i + 1) (n - (i + 1)))) t)
       ∙ G.same;
 }
 
@@ -48,7 +52,8 @@ pub gather_skip : (whole xs : List ℕ) (test : ℕ → Bool) (i n : ℕ) → Is
 unfolding places_where
 gather_skip whole xs test i n G l t = record {
   same =
-      sym (ap (λ (k : ℕ). xs ++ places_where test i k) (one_more i n l) ∙ ap (λ (b : Bool). xs ++ (if b then i ∷ places_where test (i + 1) (n - (i + 1)) else places_where test (i + 1) (n - (i + 1)))) t)
+      sym (ap (λ (k : ℕ). xs ++ places_where test i k) (one_more i n l)
+      ∙ ap (λ (b : Bool). xs ++ (if b then i ∷ places_where test (i + 1) (n - (i + 1)) else places_where test (i + 1) (n - (i + 1)))) t)
       ∙ G.same;
 }
 

@@ -5,6 +5,7 @@ use Rattle.std.proofs.lemmas.Int.{ints}
 use lib.IntN.{*ℤ_comm, +ℤ_comm}
 use Rattle.exact_forms.proofs.RationalSums.{sum_ℚ_same, sum_ℚ_none, sum_ℚ-add, mul-sum_ℚ, sum_ℚ_one}
 use Rattle.commutative_ring.proofs.Ring.{num, ◌⊕◌, ◌⊗◌, v0, v1, v2, v3, v4}
+use Rattle.commutative_ring.proofs.SmallCases.{true_or_false}
 use Rattle.exact_forms.specs.Forms.{form, IsSymmetric, unit_sum, mark_ℤ}
 use Rattle.exact_forms.specs.Rational.{Rational, whole, ◌+ℚ◌, ◌*ℚ◌}
 use Rattle.exact_forms.specs.Sums.{sum_ℚ}
@@ -21,7 +22,7 @@ use Rattle.exact_forms.proofs.Factors.{inner_ℚ_whole}
 use Rattle.exact_forms.proofs.Forms.{form_is_inner}
 use Rattle.exact_forms.proofs.Vectors.{all_from_places}
 use Rattle.exact_forms.proofs.Signs.{positive_not_zero, whole_positive}
-use Rattle.exact_forms.proofs.Coordinates.{mul_zero_ℚ, coordinates_add, basis_mark, no_zero_product, coordinates_unique, coordinates_total, true_or_false}
+use Rattle.exact_forms.proofs.Coordinates.{mul_zero_ℚ, coordinates_add, basis_mark, no_zero_product, coordinates_unique, coordinates_total}
 use Rattle.exact_forms.proofs.Denominators.{IsClearedSquare, cleared_square}
 
 -- the columns: units below low, of which t times one is `unit i j`, and the vectors' matrices from low on
@@ -33,7 +34,8 @@ pub record AreUnitsAndVectors (A : Columns) (low : ℕ) (vectors : List (List �
   pub has_vectors : HasVectors A low vectors
   pub mirrored : (u a b : ℕ) → u < low → a < A.size → b < A.size → A.entry u a b ≡ A.entry u b a
 
-module _ (A : Columns) (low : ℕ) (vectors : List (List ℕ)) (U : AreUnitsAndVectors A low vectors) (B : ℕ → Bool) (coord : ℕ → ℕ → Rational) (H : IsBasis A B coord) where
+module _ (A : Columns) (low : ℕ) (vectors : List (List ℕ)) (U : AreUnitsAndVectors A low vectors) (B : ℕ → Bool) (coord : ℕ → ℕ
+    → Rational) (H : IsBasis A B coord) where
   -- the coordinate at u of `unit i j`
   abbrev pub at_unit : ℕ → ℕ → ℕ → Rational
   at_unit u i j = U.times i j *ℚ coord (U.unit_column i j) u
@@ -72,8 +74,10 @@ module _ (A : Columns) (low : ℕ) (vectors : List (List ℕ)) (U : AreUnitsAndV
   twice x a b la lb =
       sum_ℚ_same A.size _ _ (λ i li.
       sum_ℚ_same A.size _ _ (λ j lj.
-      ap (λ w. x i j *ℚ w) (whole-add (mark_ℤ i a *ℤ mark_ℤ j b) (mark_ℤ j a *ℤ mark_ℤ i b) ∙ ap₂ (λ v w. v +ℚ w) (whole-mul (mark_ℤ i a) (mark_ℤ j b)) (whole-mul (mark_ℤ j a) (mark_ℤ i b)))
-      ∙ ring_ℚ (x i j ∷ whole (mark_ℤ i a) ∷ whole (mark_ℤ j b) ∷ whole (mark_ℤ j a) ∷ whole (mark_ℤ i b) ∷ []) (v0 ⊗ (v1 ⊗ v2 ⊕ v3 ⊗ v4)) (v1 ⊗ (v2 ⊗ v0) ⊕ v4 ⊗ (v3 ⊗ v0)) refl)
+      ap (λ w. x i j *ℚ w) (whole-add (mark_ℤ i a *ℤ mark_ℤ j b) (mark_ℤ j a *ℤ mark_ℤ i b)
+      ∙ ap₂ (λ v w. v +ℚ w) (whole-mul (mark_ℤ i a) (mark_ℤ j b)) (whole-mul (mark_ℤ j a) (mark_ℤ i b)))
+      ∙ ring_ℚ (x i j ∷ whole (mark_ℤ i a) ∷ whole (mark_ℤ j b) ∷ whole (mark_ℤ j a) ∷ whole (mark_ℤ i b) ∷ []) (v0 ⊗ (v1 ⊗ v2 ⊕ v3 ⊗ v4))
+      (v1 ⊗ (v2 ⊗ v0) ⊕ v4 ⊗ (v3 ⊗ v0)) refl)
       ∙ sum_ℚ-add A.size (λ j. whole (mark_ℤ i a) *ℚ (whole (mark_ℤ j b) *ℚ x i j)) (λ j. whole (mark_ℤ i b) *ℚ (whole (mark_ℤ j a) *ℚ x i j))
       ∙ ap₂ (λ v w. v +ℚ w)
       (sym (mul-sum_ℚ (whole (mark_ℤ i a)) A.size (λ j. whole (mark_ℤ j b) *ℚ x i j)) ∙ ap (λ w. whole (mark_ℤ i a) *ℚ w) (pick b (x i) lb))
@@ -87,11 +91,13 @@ module _ (A : Columns) (low : ℕ) (vectors : List (List ℕ)) (U : AreUnitsAndV
   by_units u c x lu h s =
       coordinates_unique A B (λ k. c k +ℚ whole (pos 1) *ℚ c k) _ (λ a b. x a b +ℚ whole (pos 1) *ℚ x a b) _ H.independent
       (coordinates_add A B c c x x (whole (pos 1)) h h)
-      (coordinates_total A B A.size (λ i. whole (pos 1)) (λ i k. sum_ℚ A.size (λ j. x i j *ℚ at_unit k i j)) (λ i a b. sum_ℚ A.size (λ j. x i j *ℚ whole (unit_sum i j a b)))
+      (coordinates_total A B A.size (λ i. whole (pos 1)) (λ i k. sum_ℚ A.size (λ j. x i j *ℚ at_unit k i j))
+      (λ i a b. sum_ℚ A.size (λ j. x i j *ℚ whole (unit_sum i j a b)))
       (λ i li. coordinates_total A B A.size (x i) (λ j k. at_unit k i j) (λ j a b. whole (unit_sum i j a b)) (λ j lj. unit_coordinates i j li lj)))
       (λ a b la lb. same a b la lb) u lu
     where
-      same : (a b : ℕ) → a < A.size → b < A.size → x a b +ℚ whole (pos 1) *ℚ x a b ≡ sum_ℚ A.size (λ i. whole (pos 1) *ℚ sum_ℚ A.size (λ j. x i j *ℚ whole (unit_sum i j a b)))
+      same : (a b : ℕ) → a < A.size → b < A.size
+          → x a b +ℚ whole (pos 1) *ℚ x a b ≡ sum_ℚ A.size (λ i. whole (pos 1) *ℚ sum_ℚ A.size (λ j. x i j *ℚ whole (unit_sum i j a b)))
       same a b la lb =
           ap (λ w. x a b +ℚ w) (one_mul_ℚ (x a b) ∙ s a b la lb)
           ∙ sym (twice x a b la lb)
@@ -99,7 +105,8 @@ module _ (A : Columns) (low : ℕ) (vectors : List (List ℕ)) (U : AreUnitsAndV
 
   -- the value of a matrix that is e times the coordinates at u of the units
   pub ray_value : (u : ℕ) (e : Rational) (z : ℕ → ℕ → ℤ) (c : ℕ → Rational) (x : ℕ → ℕ → Rational) → u < A.count
-      → ((i j : ℕ) → i < A.size → j < A.size → whole (z i j) ≡ e *ℚ at_unit u i j) → IsCoordinates A B c x → ((a b : ℕ) → a < A.size → b < A.size → x a b ≡ x b a)
+      → ((i j : ℕ) → i < A.size → j < A.size → whole (z i j) ≡ e *ℚ at_unit u i j) → IsCoordinates A B c x
+      → ((a b : ℕ) → a < A.size → b < A.size → x a b ≡ x b a)
       → inner_ℚ A.size z x ≡ e *ℚ (c u +ℚ whole (pos 1) *ℚ c u)
   unfolding inner_ℚ
   ray_value u e z c x lu h hc s =
@@ -134,7 +141,8 @@ module _ (A : Columns) (low : ℕ) (vectors : List (List ℕ)) (U : AreUnitsAndV
       at_vectors b k l = whole_same _ (pos 0) (
           ap whole (form_is_inner A.size Z.whole_numbers (vector k))
           ∙ sym (inner_ℚ_whole A.size Z.whole_numbers (λ i j. vector k i *ℤ vector k j) (A.entry (low + k)) (λ i j li lj. U.has_vectors.entry k i j l li lj))
-          ∙ ray_value u (whole Z.common) Z.whole_numbers (coord (low + k)) (A.entry (low + k)) lc Z.same (H.written (low + k) (let a = U.has_vectors.within in omega arith))
+          ∙ ray_value u (whole Z.common) Z.whole_numbers (coord (low + k)) (A.entry (low + k)) lc Z.same
+          (H.written (low + k) (let a = U.has_vectors.within in omega arith))
           (λ a b la lb. U.has_vectors.entry k a b l la lb ∙ ap whole (*ℤ_comm (vector k a) (vector k b)) ∙ sym (U.has_vectors.entry k b a l lb la))
           ∙ ap (λ w. whole Z.common *ℚ w) (two_zero (coord (low + k) u) (S.cleared (low + k) u (omega arith) (omega arith) lu b))
           ∙ mul_zero_ℚ (whole Z.common))
@@ -142,7 +150,9 @@ module _ (A : Columns) (low : ℕ) (vectors : List (List ℕ)) (U : AreUnitsAndV
       at_units : B u ≡ true → (i j : ℕ) → i < A.size → j < A.size → at_unit u i j ≡ whole (pos 0)
       at_units b i j li lj =
           no_zero_product (at_unit u i j) (whole Z.common) (positive_not_zero (whole Z.common) (whole_positive Z.common Z.positive))
-          (ring_ℚ (at_unit u i j ∷ whole Z.common ∷ []) (v0 ⊗ v1) (v1 ⊗ v0) refl ∙ sym (Z.same i j li lj) ∙ ap whole (F.only_zero Z.whole_numbers z_symmetric (all_from_places (λ v. form A.size Z.whole_numbers (coordinate v) ≡ pos 0) vectors (λ k l. at_vectors b k l)) i j li lj))
+          (ring_ℚ (at_unit u i j ∷ whole Z.common ∷ []) (v0 ⊗ v1) (v1 ⊗ v0) refl ∙ sym (Z.same i j li lj)
+          ∙ ap whole (F.only_zero Z.whole_numbers z_symmetric
+          (all_from_places (λ v. form A.size Z.whole_numbers (coordinate v) ≡ pos 0) vectors (λ k l. at_vectors b k l)) i j li lj))
 
       itself : B u ≡ true → coord u u ≡ whole (pos 1)
       itself b = basis_mark A B coord H u lc b u lc ∙ replaced_here (λ k. whole (pos 0)) u (whole (pos 1)) u refl
@@ -153,4 +163,6 @@ module _ (A : Columns) (low : ℕ) (vectors : List (List ℕ)) (U : AreUnitsAndV
           (ring_ℚ [] (num (pos 2)) (num (pos 1) ⊕ num (pos 1) ⊗ num (pos 1)) refl
           ∙ ap (λ y. y +ℚ whole (pos 1) *ℚ y) (sym (itself b))
           ∙ by_units u (coord u) (A.entry u) lc (H.written u lc) (λ a b la lb. U.mirrored u a b lu la lb)
-          ∙ sum_ℚ_none A.size _ (λ i li. ap (λ w. whole (pos 1) *ℚ w) (sum_ℚ_none A.size _ (λ j lj. ap (λ w. A.entry u i j *ℚ w) (at_units b i j li lj) ∙ mul_zero_ℚ (A.entry u i j))) ∙ mul_zero_ℚ (whole (pos 1)))))
+          ∙ sum_ℚ_none A.size _
+          (λ i li. ap (λ w. whole (pos 1) *ℚ w) (sum_ℚ_none A.size _ (λ j lj. ap (λ w. A.entry u i j *ℚ w) (at_units b i j li lj)
+          ∙ mul_zero_ℚ (A.entry u i j))) ∙ mul_zero_ℚ (whole (pos 1)))))

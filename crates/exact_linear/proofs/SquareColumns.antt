@@ -1,10 +1,12 @@
 -- The columns of the tableau of a list of vectors are their squares, then the target.
-use Rattle.std.specs.Prelude.{◌≡◌, ℕ, zero, suc, ◌+◌, ◌-◌, ◌<◌, ◌≤◌, ◌⊎◌, pos, ◌*ℤ◌, Bool, true, false, nat_lt, List, [], ◌∷◌, ◌++◌, length, get_or, slice_index_or, if◌then◌else◌}
+use Rattle.std.specs.Prelude.{◌≡◌, ℕ, zero, suc, ◌+◌, ◌-◌, ◌<◌, ◌≤◌, ◌⊎◌, pos, ◌*ℤ◌, Bool, true, false, nat_lt, List, [], ◌∷◌, ◌++◌, length, get_or}
+use Rattle.std.specs.Prelude.{slice_index_or, if◌then◌else◌}
 use Rattle.std.proofs.Common.{arith, sym, ◌∙◌, ap, refl, subst, inl, inr, length-append, append-nil}
 use Rattle.std.proofs.lemmas.List.{get_or-append-add}
 use Rattle.std.proofs.Math.ListN.{get_or-append}
 use Rattle.std.proofs.lemmas.List.FromFn.{get_or-map-range_with_len}
 use lib.IntN.{*ℤ_comm}
+use Rattle.commutative_ring.proofs.SmallCases.{at_least_of_test, at_most_of_test, last_or_before}
 use Rattle.exact_forms.specs.Rational.{whole}
 use Rattle.exact_forms.specs.Triangles.{triangle, entry_in}
 use Rattle.exact_forms.specs.RankOne.{HasVectors}
@@ -24,9 +26,6 @@ unfolding square_rows
 square_at x zero a b h l = absurd (omega arith)
 square_at x (suc n) a b h l = by (last_or_before a n l) (λ m. square_at x n a b h m)
   where
-    last_or_before : (a n : ℕ) → a < suc n → (a ≡ n) ⊎ (a < n)
-    last_or_before a n l = grind arith
-
     by : ((a ≡ n) ⊎ (a < n)) → (a < n → get_or (square_rows x n) (triangle a + b) (pos 0) ≡ coordinate x a *ℤ coordinate x b)
         → get_or (square_rows x n ++ square_row x n) (triangle a + b) (pos 0) ≡ coordinate x a *ℤ coordinate x b
     by (inl e) rec =
@@ -40,25 +39,23 @@ square_at x (suc n) a b h l = by (last_or_before a n l) (λ m. square_at x n a b
         let before = entry_before a b n h m in
         get_or-append (square_rows x n) (square_row x n) (pos 0) (triangle a + b) (omega arith) ∙ rec m
 
-pub square_entry : (x : List ℕ) (i j : ℕ) → i < length x → j < length x → get_or (square_rows x (length x)) (place_in i j) (pos 0) ≡ coordinate x i *ℤ coordinate x j
+pub square_entry : (x : List ℕ) (i j : ℕ) → i < length x → j < length x
+    → get_or (square_rows x (length x)) (place_in i j) (pos 0) ≡ coordinate x i *ℤ coordinate x j
 unfolding place_in
 square_entry x i j li lj = by (nat_lt i j) refl
   where
-    before : (a b : ℕ) → nat_lt a b ≡ true → a ≤ b
-    before a b e = grind arith
-
-    after : (a b : ℕ) → nat_lt a b ≡ false → b ≤ a
-    after a b e = grind arith
-
-    by : (t : Bool) → nat_lt i j ≡ t → get_or (square_rows x (length x)) (if t then triangle j + i else triangle i + j) (pos 0) ≡ coordinate x i *ℤ coordinate x j
-    by true e = square_at x (length x) j i (before i j e) lj ∙ *ℤ_comm (coordinate x j) (coordinate x i)
-    by false e = square_at x (length x) i j (after i j e) li
+    by : (t : Bool) → nat_lt i j ≡ t
+        → get_or (square_rows x (length x)) (if t then triangle j + i else triangle i + j) (pos 0) ≡ coordinate x i *ℤ coordinate x j
+    by true e = square_at x (length x) j i (at_most_of_test i j e) lj ∙ *ℤ_comm (coordinate x j) (coordinate x i)
+    by false e = square_at x (length x) i j (at_least_of_test i j e) li
 
 pub target_entry : (s : Symmetric) (i j : ℕ) → get_or s.lower (place_in i j) (pos 0) ≡ entry s i j
 unfolding place_in entry entry_in
 target_entry s i j = by (nat_lt i j)
   where
-    by : (t : Bool) → get_or s.lower (if t then triangle j + i else triangle i + j) (pos 0) ≡ (if t then slice_index_or s.lower (triangle j + i) (pos 0) else slice_index_or s.lower (triangle i + j) (pos 0))
+    by : (t : Bool)
+        → get_or s.lower (if t then triangle j + i else triangle i + j) (pos 0)
+        ≡ (if t then slice_index_or s.lower (triangle j + i) (pos 0) else slice_index_or s.lower (triangle i + j) (pos 0))
     by true = refl
     by false = refl
 
@@ -67,7 +64,8 @@ back n k = omega arith
 
 pub vector_column : (n : ℕ) (vectors : List (List ℕ)) (more : List Symmetric) (k i j : ℕ)
     → k < length vectors → length (slice_index_or vectors k []) ≡ n → i < n → j < n
-    → start_cell (triangle n) (squares vectors ++ more) (place_in i j) (triangle n + k) ≡ whole (coordinate (slice_index_or vectors k []) i *ℤ coordinate (slice_index_or vectors k []) j)
+    → start_cell (triangle n) (squares vectors ++ more) (place_in i j) (triangle n + k)
+    ≡ whole (coordinate (slice_index_or vectors k []) i *ℤ coordinate (slice_index_or vectors k []) j)
 vector_column n vectors more k i j l e li lj =
     sym (cell_given (triangle n) (squares vectors ++ more) (place_in i j) (triangle n + k) (omega arith))
     ∙ ap (λ (k : ℕ). whole (slice_index_or (slice_index_or (squares vectors ++ more) k no_matrix).lower (place_in i j) (pos 0))) (back (triangle n) k)
@@ -92,6 +90,7 @@ pub target_column : (n : ℕ) (vectors : List (List ℕ)) (s : Symmetric) (i j :
     → start_cell (triangle n) (squares vectors ++ s ∷ []) (place_in i j) (triangle n + length vectors) ≡ whole (entry s i j)
 target_column n vectors s i j =
     sym (cell_given (triangle n) (squares vectors ++ s ∷ []) (place_in i j) (triangle n + length vectors) (omega arith))
-    ∙ ap (λ (k : ℕ). whole (slice_index_or (slice_index_or (squares vectors ++ s ∷ []) k no_matrix).lower (place_in i j) (pos 0))) (back (triangle n) (length vectors) ∙ sym (length-squares vectors))
+    ∙ ap (λ (k : ℕ). whole (slice_index_or (slice_index_or (squares vectors ++ s ∷ []) k no_matrix).lower (place_in i j) (pos 0)))
+    (back (triangle n) (length vectors) ∙ sym (length-squares vectors))
     ∙ ap (λ (q : Symmetric). whole (slice_index_or q.lower (place_in i j) (pos 0))) (at_end (squares vectors) s)
     ∙ ap whole (target_entry s i j)

@@ -1,10 +1,12 @@
 -- Squares of vectors as lists.
-use Rattle.std.specs.Prelude.{◌≡◌, ℕ, zero, suc, ◌+◌, ◌-◌, ◌*◌, ◌^◌, ◌<◌, ◌≤◌, ◌⊎◌, ℤ, pos, ◌*ℤ◌, nat_abs, List, [], ◌∷◌, ◌++◌, map, length, get_or, slice_index_or, slice_get, Some}
+use Rattle.std.specs.Prelude.{◌≡◌, ℕ, zero, suc, ◌+◌, ◌-◌, ◌*◌, ◌^◌, ◌<◌, ◌≤◌, ◌⊎◌, ℤ, pos, ◌*ℤ◌, nat_abs, List, [], ◌∷◌, ◌++◌, map, length, get_or}
+use Rattle.std.specs.Prelude.{slice_index_or, slice_get, Some}
 use Rattle.std.proofs.Common.{arith, sym, ◌∙◌, ap, ap₂, refl, subst, inl, inr, mul-le-mul, append_assoc, append-nil, length-append, lit≤}
 use Rattle.std.specs.List.{range_with_len}
 use Rattle.std.proofs.lemmas.List.{get_or_past}
 use Rattle.std.proofs.Math.ListN.{get_or-append}
 use Rattle.std.proofs.lemmas.List.FromFn.{length-map-range_with_len, get_or-map-range_with_len, map-range_with_len_more}
+use Rattle.commutative_ring.proofs.SmallCases.{below_or_not}
 use Rattle.exact_forms.specs.Triangles.{triangle}
 use Rattle.exact_forms.specs.Vectors.{coordinate}
 use Rattle.symmetric_matrix.specs.Symmetric.{Symmetric, FitsInt, IsLower}
@@ -22,7 +24,8 @@ product_is a b = refl
 abbrev pub row_until : List ℕ → ℕ → ℕ → List ℤ
 row_until x i k = map (λ j. coordinate x i *ℤ coordinate x j) (range_with_len 0 k)
 
-pub row_more : (x : List ℕ) (i k : ℕ) (old now new : List ℤ) (z : ℤ) → now ≡ old ++ row_until x i k → z ≡ coordinate x i *ℤ coordinate x k → new ≡ now ++ z ∷ [] → new ≡ old ++ row_until x i (k + 1)
+pub row_more : (x : List ℕ) (i k : ℕ) (old now new : List ℤ) (z : ℤ) → now ≡ old ++ row_until x i k → z ≡ coordinate x i *ℤ coordinate x k → new ≡ now ++ z ∷ []
+    → new ≡ old ++ row_until x i (k + 1)
 row_more x i k old now new z e f g =
     g ∙ ap₂ (λ (xs : List ℤ) (z : ℤ). xs ++ z ∷ []) e f ∙ append_assoc old (row_until x i k) ((coordinate x i *ℤ coordinate x k) ∷ [])
     ∙ ap (λ (ys : List ℤ). old ++ ys) (sym (map-range_with_len_more (λ j. coordinate x i *ℤ coordinate x j) 0 k k (omega arith)))
@@ -41,7 +44,9 @@ rows_more x n = let e : n + 1 ≡ suc n = omega arith in ap (λ (k : ℕ). squar
 pub rows_length : (x : List ℕ) (n : ℕ) → length (square_rows x n) ≡ triangle n
 unfolding square_rows triangle
 rows_length x zero = refl
-rows_length x (suc n) = length-append (square_rows x n) (square_row x n) ∙ ap₂ (λ (a : ℕ) (b : ℕ). a + b) (rows_length x n) (length-map-range_with_len (λ j. coordinate x n *ℤ coordinate x j) 0 (n + 1) ∙ (let e : n + 1 ≡ suc n = omega arith in e))
+rows_length x (suc n) = length-append (square_rows x n) (square_row x n)
+    ∙ ap₂ (λ (a : ℕ) (b : ℕ). a + b) (rows_length x n) (length-map-range_with_len (λ j. coordinate x n *ℤ coordinate x j) 0 (n + 1)
+    ∙ (let e : n + 1 ≡ suc n = omega arith in e))
 
 -- ---- each entry is narrow
 AllNarrow : List ℤ → Type 0
@@ -54,11 +59,8 @@ narrow_append (x ∷ xs) ys a b zero l = a zero (omega arith)
 narrow_append (x ∷ xs) ys a b (suc k) l = narrow_append xs ys (λ k l. a (suc k) (omega arith)) b k (omega arith)
 
 small_or_none : (x : List ℕ) (p : ℕ) → IsVector x → get_or x p 0 ≤ 2 ^ 62
-small_or_none x p V = by (within p (length x))
+small_or_none x p V = by (below_or_not p (length x))
   where
-    within : (p n : ℕ) → (p < n) ⊎ (n ≤ p)
-    within p n = grind arith
-
     by : ((p < length x) ⊎ (length x ≤ p)) → get_or x p 0 ≤ 2 ^ 62
     by (inl l) = V.small p l
     by (inr m) = let e : get_or x p 0 ≡ 0 = get_or_past x p 0 m in subst (λ (n : ℕ). n ≤ 2 ^ 62) (sym e) (lit≤ tt)
@@ -93,10 +95,13 @@ square_lower x n lower V e = record {
 abbrev pub squares_until : List (List ℕ) → ℕ → List Symmetric
 squares_until vectors n = map (λ k. square (slice_index_or vectors k [])) (range_with_len 0 n)
 
-pub squares_more : (vectors : List (List ℕ)) (k : ℕ) (now new : List Symmetric) (q : Symmetric) → now ≡ squares_until vectors k → q ≡ square (slice_index_or vectors k []) → new ≡ now ++ q ∷ [] → new ≡ squares_until vectors (k + 1)
-squares_more vectors k now new q e f g = g ∙ ap₂ (λ (xs : List Symmetric) (q : Symmetric). xs ++ q ∷ []) e f ∙ sym (map-range_with_len_more (λ k. square (slice_index_or vectors k [])) 0 k k (omega arith))
+pub squares_more : (vectors : List (List ℕ)) (k : ℕ) (now new : List Symmetric) (q : Symmetric) → now ≡ squares_until vectors k
+    → q ≡ square (slice_index_or vectors k []) → new ≡ now ++ q ∷ [] → new ≡ squares_until vectors (k + 1)
+squares_more vectors k now new q e f g = g ∙ ap₂ (λ (xs : List Symmetric) (q : Symmetric). xs ++ q ∷ []) e f
+    ∙ sym (map-range_with_len_more (λ k. square (slice_index_or vectors k [])) 0 k k (omega arith))
 
-pub squares_all : (vectors : List (List ℕ)) (k : ℕ) (now new : List Symmetric) (s : Symmetric) → now ≡ squares_until vectors k → k ≡ length vectors → new ≡ now ++ s ∷ [] → new ≡ squares vectors ++ s ∷ []
+pub squares_all : (vectors : List (List ℕ)) (k : ℕ) (now new : List Symmetric) (s : Symmetric) → now ≡ squares_until vectors k → k ≡ length vectors
+    → new ≡ now ++ s ∷ [] → new ≡ squares vectors ++ s ∷ []
 unfolding squares
 squares_all vectors k now new s e f g = g ∙ ap (λ (xs : List Symmetric). xs ++ s ∷ []) (e ∙ ap (λ (k : ℕ). squares_until vectors k) f)
 
@@ -114,14 +119,13 @@ at_end (x ∷ xs) s = at_end xs s
 
 pub sizes : (vectors : List (List ℕ)) (s : Symmetric) → ((k : ℕ) → k < length vectors → length (slice_index_or vectors k []) ≡ s.size)
     → (k : ℕ) → k < length (squares vectors ++ s ∷ []) → (slice_index_or (squares vectors ++ s ∷ []) k no_matrix).size ≡ s.size
-sizes vectors s h k l = by (within k (length vectors)) (length-append (squares vectors) (s ∷ [])) (length-squares vectors)
+sizes vectors s h k l = by (below_or_not k (length vectors)) (length-append (squares vectors) (s ∷ [])) (length-squares vectors)
   where
-    within : (p n : ℕ) → (p < n) ⊎ (n ≤ p)
-    within p n = grind arith
-
-    by : ((k < length vectors) ⊎ (length vectors ≤ k)) → length (squares vectors ++ s ∷ []) ≡ length (squares vectors) + length (s ∷ []) → length (squares vectors) ≡ length vectors
+    by : ((k < length vectors) ⊎ (length vectors ≤ k)) → length (squares vectors ++ s ∷ []) ≡ length (squares vectors) + length (s ∷ [])
+        → length (squares vectors) ≡ length vectors
         → (slice_index_or (squares vectors ++ s ∷ []) k no_matrix).size ≡ s.size
-    by (inl m) a b = ap (λ (q : Symmetric). q.size) (get_or-append (squares vectors) (s ∷ []) no_matrix k (omega arith) ∙ squares_at vectors k no_matrix m) ∙ h k m
+    by (inl m) a b = ap (λ (q : Symmetric). q.size) (get_or-append (squares vectors) (s ∷ []) no_matrix k (omega arith) ∙ squares_at vectors k no_matrix m)
+        ∙ h k m
     by (inr m) a b =
         let e : k ≡ length (squares vectors) = omega arith in
         ap (λ (k : ℕ). (slice_index_or (squares vectors ++ s ∷ []) k no_matrix).size) e ∙ ap (λ (q : Symmetric). q.size) (at_end (squares vectors) s)

@@ -1,12 +1,13 @@
 -- The sum of the basic columns in the last column.
 use Rattle.std.specs.Prelude.{◌≡◌, ◌≢◌, ℕ, ◌+◌, ◌<◌, ◌⊎◌, pos, Bool, true, false, nat_eq, if◌then◌else◌}
 use Rattle.std.proofs.Common.{arith, sym, ◌∙◌, ap, inl, inr}
+use Rattle.commutative_ring.proofs.SmallCases.{true_or_false}
 use Rattle.exact_forms.specs.Rational.{Rational, whole, ◌*ℚ◌}
 use Rattle.exact_forms.specs.Sums.{sum_ℚ}
 use Rattle.exact_forms.proofs.Rational.{zero_mul_ℚ}
 use Rattle.exact_forms.proofs.RationalSums.{sum_ℚ_same, sum_ℚ_none, sum_ℚ_one, sum_ℚ_swap, sum_ℚ-mul}
 use Rattle.exact_forms.specs.Coordinates.{Columns, IsCoordinates, IsBasis, IsShown, mark}
-use Rattle.exact_forms.proofs.Coordinates.{mark_off, sum_marked, true_or_false}
+use Rattle.exact_forms.proofs.Coordinates.{mark_off, sum_marked}
 use Rattle.exact_forms.proofs.Slacks.{replaced_here}
 use Rattle.exact_linear.specs.Tables.{Table, rows_of, table_entry, basic_at}
 use Rattle.exact_linear.specs.Columns.{with_sum, with_sum_of, HasCoordinates, IsLastFree}
@@ -29,11 +30,15 @@ module _ (A : Columns) (t : Table) (H : HasCoordinates A t) (F : IsLastFree t) w
   times_one : (k : ℕ) → k < A.count → H.basis k ≡ true → times k ≡ whole (pos 1)
   times_one k lk b =
       let e = H.shown.every k lk b in
-      sum_ℚ_one (rows_of t) (λ i. mark (basic_at t i) k) e.0 e.1 (λ i li ne. mark_off A (basic_at t i) k (λ (s : k ≡ basic_at t i). H.shown.apart i e.0 li e.1 ne (sym s ∙ sym e.2)))
+      sum_ℚ_one (rows_of t) (λ i. mark (basic_at t i) k) e.0 e.1
+      (λ i li ne. mark_off A (basic_at t i) k (λ (s : k ≡ basic_at t i). H.shown.apart i e.0 li e.1 ne (sym s ∙ sym e.2)))
       ∙ replaced_here (λ k. whole (pos 0)) (basic_at t e.0) (whole (pos 1)) k (sym e.2)
 
   times_none : (k : ℕ) → H.basis k ≡ false → times k ≡ whole (pos 0)
-  times_none k b = sum_ℚ_none (rows_of t) _ (λ i li. mark_off A (basic_at t i) k (λ (s : k ≡ basic_at t i). absurd (let u = H.shown.in_basis i li in let v : H.basis k ≡ H.basis (basic_at t i) = ap H.basis s in cc)))
+  times_none k b =
+      sum_ℚ_none (rows_of t) _
+      (λ i li. mark_off A (basic_at t i) k (λ (s : k ≡ basic_at t i). absurd (let u = H.shown.in_basis i li in
+      let v : H.basis k ≡ H.basis (basic_at t i) = ap H.basis s in cc)))
 
   abbrev pub summed_coord : ℕ → ℕ → Rational
   summed_coord j k = if nat_eq (j + 1) A.count then times k else H.coord j k
@@ -67,7 +72,8 @@ module _ (A : Columns) (t : Table) (H : HasCoordinates A t) (F : IsLastFree t) w
   same_sum c off a b = sum_ℚ_same A.count _ _ (λ k lk. by k lk (last_or_not k A.count))
     where
       by : (k : ℕ) → k < A.count → ((k + 1 ≡ A.count) ⊎ (k + 1 ≢ A.count)) → c k *ℚ summed.entry k a b ≡ c k *ℚ A.entry k a b
-      by k lk (inl e) = let z = off k lk (last_out k lk e) in ap (λ w. w *ℚ summed.entry k a b) z ∙ zero_mul_ℚ (summed.entry k a b) ∙ sym (ap (λ w. w *ℚ A.entry k a b) z ∙ zero_mul_ℚ (A.entry k a b))
+      by k lk (inl e) = let z = off k lk (last_out k lk e) in ap (λ w. w *ℚ summed.entry k a b) z ∙ zero_mul_ℚ (summed.entry k a b)
+          ∙ sym (ap (λ w. w *ℚ A.entry k a b) z ∙ zero_mul_ℚ (A.entry k a b))
       by k lk (inr n) = ap (λ w. c k *ℚ w) (entry_other k a b n)
 
   sum_is : (a b : ℕ) → sum_ℚ A.count (λ k. times k *ℚ A.entry k a b) ≡ sum_ℚ (rows_of t) (λ i. A.entry (basic_at t i) a b)
@@ -78,7 +84,14 @@ module _ (A : Columns) (t : Table) (H : HasCoordinates A t) (F : IsLastFree t) w
 
   pub summed_basis : IsBasis summed H.basis summed_coord
   summed_basis = record {
-    independent = record { only_zero = λ c h k lk. H.is_basis.independent.only_zero c record { outside = h.outside; sum = λ a b la lb. sym (same_sum c h.outside a b) ∙ h.sum a b la lb } k lk };
+    independent =
+        record {
+          only_zero = λ c h k lk. H.is_basis.independent.only_zero c record {
+            outside = h.outside;
+            sum = λ a b la lb. sym (same_sum c h.outside a b)
+                ∙ h.sum a b la lb;
+          } k lk;
+        };
     written = λ j lj. by j lj (last_or_not j A.count);
   }
     where
@@ -112,9 +125,11 @@ module _ (A : Columns) (t : Table) (H : HasCoordinates A t) (F : IsLastFree t) w
   }
     where
       cell : (i j : ℕ) → i < rows_of t → j < A.count → table_entry (with_sum t) i j ≡ (if nat_eq (j + 1) t.width then whole (pos 1) else table_entry t i j)
-      cell i j li lj = cells_at (rows_of t) t.width (λ i j. if nat_eq (j + 1) t.width then whole (pos 1) else table_entry t i j) i j li (let w = H.width in omega arith)
+      cell i j li lj =
+          cells_at (rows_of t) t.width (λ i j. if nat_eq (j + 1) t.width then whole (pos 1) else table_entry t i j) i j li (let w = H.width in omega arith)
 
-      by : (i j : ℕ) → i < rows_of t → j < A.count → ((j + 1 ≡ t.width) ⊎ (j + 1 ≢ t.width)) → (if nat_eq (j + 1) t.width then whole (pos 1) else table_entry t i j) ≡ summed_coord j (basic_at t i)
+      by : (i j : ℕ) → i < rows_of t → j < A.count → ((j + 1 ≡ t.width) ⊎ (j + 1 ≢ t.width))
+          → (if nat_eq (j + 1) t.width then whole (pos 1) else table_entry t i j) ≡ summed_coord j (basic_at t i)
       by i j li lj (inl e) =
           ap (λ (b : Bool). if b then whole (pos 1) else table_entry t i j) (at_last j t.width e)
           ∙ sym (coord_last j (basic_at t i) (e ∙ sym H.width) ∙ times_one (basic_at t i) (H.shown.within i li) (H.shown.in_basis i li))

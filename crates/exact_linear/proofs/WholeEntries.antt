@@ -1,11 +1,12 @@
 -- The entries of a table over one denominator, and those after an exchange.
-use Rattle.std.specs.Prelude.{◌≡◌, ◌≢◌, ℕ, ◌+◌, ◌*◌, ◌<◌, ◌≤◌, ◌^◌, ℤ, pos, negsuc, neg_ℤ, nat_abs, ◌+ℤ◌, ◌-ℤ◌, ◌*ℤ◌, ◌≤ℤ◌, nat_eq, true, false, List, [], ◌∷◌, length, get_or, ◌⊎◌, ◌++◌, take, drop, set}
-use Rattle.std.proofs.Common.{to_z-of_z, to_z, of_z, FitsSigned, arith, sym, ◌∙◌, ap, ap₂, refl, mul-pos, mul-le-mul, inl, inr}
+use Rattle.std.specs.Prelude.{◌≡◌, ◌≢◌, ℕ, ◌+◌, ◌*◌, ◌<◌, ◌≤◌, ◌^◌, ℤ, pos, neg_ℤ, nat_abs, ◌+ℤ◌, ◌-ℤ◌, ◌*ℤ◌, nat_eq, false, List, [], ◌∷◌, length, get_or, ◌⊎◌}
+use Rattle.std.specs.Prelude.{◌++◌, take, drop, set}
+use Rattle.std.proofs.Common.{arith, sym, ◌∙◌, ap, ap₂, refl, mul-pos, mul-le-mul, inl, inr}
 use Rattle.std.proofs.lemmas.Int.{ints}
-use mir.Syntax.{w64, w128}
 use Rattle.std.proofs.Math.ListN.{get_or-map}
 use Rattle.std.proofs.lemmas.List.{length-map, map-set, get_or-set_same, get_or-set_other, get_or_past}
 use Rattle.commutative_ring.proofs.Ring.{ring, num, neg, v0, v1, v2, v3, v4, ◌⊗◌, ◌⊕◌}
+use Rattle.commutative_ring.proofs.SmallCases.{below_or_not, here_or_before}
 use Rattle.exact_forms.specs.Rational.{Rational, ratio, whole, neg_ℚ, ◌*ℚ◌, ◌-ℚ◌, ◌+ℚ◌, ◌/ℚ◌}
 use Rattle.exact_forms.proofs.Rational.{ratio_same, ratio_value, cancel_pos, den_positive, mul-ratio, neg-ratio, add-ratio}
 use Rattle.exact_forms.proofs.Lowest.{zero_num}
@@ -56,26 +57,7 @@ pivot_row_at w r c rows d j ws h s ne e lr lj =
     ∙ ap (λ (x : Rational). x /ℚ entry_of old (r * w + c)) (row_at w r j old lj ∙ fractions_entry d ws (r * w + j) h.positive)
     ∙ quotient_is d (entry_of old (r * w + c)) (whole_at ws (r * w + c)) (whole_at ws (r * w + j)) (pivot_over d ws (r * w + c) h s ne))
 
-pub at_least_one_is : (z : ℤ) → pos 1 ≤ℤ z → pos (nat_abs z) ≡ z
-at_least_one_is (pos n) h = refl
-at_least_one_is (negsuc n) h = absurd (omega (arith, ints))
-
-pub at_least_one_positive : (z : ℤ) → pos 1 ≤ℤ z → 0 < nat_abs z
-at_least_one_positive (pos n) h = omega (arith, ints)
-at_least_one_positive (negsuc n) h = absurd (omega (arith, ints))
-
--- a number is read back as it was written
-pub small_back : (z : ℤ) → nat_abs z < 2 ^ 63 → to_z w64 (of_z w64 z) ≡ z
-small_back z h = let f : FitsSigned w64 z = omega (arith, ints) in to_z-of_z f
-
-pub wide_back : (z : ℤ) → nat_abs z < 2 ^ 127 → to_z w128 (of_z w128 z) ≡ z
-wide_back z h = let f : FitsSigned w128 z = omega (arith, ints) in to_z-of_z f
-
 -- ---- a new entry
-pub whole_here : (r i : ℕ) (x f y : Rational) → i ≡ r → new_cell r i x f y ≡ y
-unfolding new_cell
-whole_here r i x f y e = let t : nat_eq i r ≡ true = grind arith in rw t
-
 -- x/d - f/d · y/e = q/e
 difference_is : (x f y q : ℤ) (d e : ℕ) → 0 < d → 0 < e → q *ℤ pos d ≡ x *ℤ pos e -ℤ f *ℤ y → ratio x d -ℚ ratio f d *ℚ ratio y e ≡ ratio q e
 unfolding ◌-ℚ◌
@@ -122,11 +104,8 @@ written r c w rows d i j k ws into q h s ne e lr lj lk li value =
 
 pub written_small : (ws : List ℤ) (k m : ℕ) (q : ℤ) → k < length ws → ((m : ℕ) → m < k → nat_abs (whole_at ws m) < 2 ^ 63) → nat_abs q < 2 ^ 63
     → m < k + 1 → nat_abs (whole_at (set ws k q) m) < 2 ^ 63
-written_small ws k m q l h hq lm = by (same_or_below m k lm)
+written_small ws k m q l h hq lm = by (here_or_before m k lm)
   where
-    same_or_below : (m k : ℕ) → m < k + 1 → (m ≡ k) ⊎ (m < k)
-    same_or_below m k l = grind arith
-
     by : ((m ≡ k) ⊎ (m < k)) → nat_abs (whole_at (set ws k q) m) < 2 ^ 63
     by (inl e) = rw (e, get_or-set_same ws k q (pos 0) l) hq
     by (inr b) = rw (get_or-set_other ws k m q (pos 0) (let n : m ≢ k = omega arith in n)) (h m b)
@@ -142,9 +121,6 @@ all_written r c w e k i j into old l s h =
 pub all_small : (ws : List ℤ) (k : ℕ) → length ws ≤ k → ((m : ℕ) → m < k → nat_abs (whole_at ws m) < 2 ^ 63) → AreSmallWholes ws
 all_small ws k l h = record { small = λ m. by m (below_or_not m k) }
   where
-    below_or_not : (m k : ℕ) → (m < k) ⊎ (k ≤ m)
-    below_or_not m k = grind arith
-
     by : (m : ℕ) → ((m < k) ⊎ (k ≤ m)) → nat_abs (whole_at ws m) < 2 ^ 63
     by m (inl b) = h m b
     by m (inr b) = rw (get_or_past ws m (pos 0) (omega arith)) (let o : 0 < 2 ^ 63 = omega arith in o)
@@ -152,9 +128,6 @@ all_small ws k l h = record { small = λ m. by m (below_or_not m k) }
 pub row_below : (i j w rows k : ℕ) → k ≡ i * w + j → k < rows * w → i < rows
 row_below i j w rows k e l = by (below_or_not i rows)
   where
-    below_or_not : (i rows : ℕ) → (i < rows) ⊎ (rows ≤ i)
-    below_or_not i rows = grind arith
-
     by : ((i < rows) ⊎ (rows ≤ i)) → i < rows
     by (inl m) = m
     by (inr m) = let p : rows * w ≤ i * w = mul-le-mul m (let q : w ≤ w = omega arith in q) in absurd (omega arith)

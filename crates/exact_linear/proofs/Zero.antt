@@ -5,6 +5,7 @@ use Rattle.std.proofs.lemmas.Int.{ints}
 use native.Mathlib.Nat.{zero-div, div-one, div_self}
 use Rattle.commutative_ring.specs.Gcd.{gcd_of, gcd_steps, divided}
 use Rattle.commutative_ring.proofs.Ring.{num, ◌⊕◌, ◌⊗◌, neg, v0}
+use Rattle.commutative_ring.proofs.Laws.{mul_zero_ℤ, zero_mul_ℤ}
 use Rattle.exact_forms.specs.Rational.{Rational, ratio, whole, neg_ℚ, ◌*ℚ◌, ◌-ℚ◌, ◌+ℚ◌}
 use Rattle.exact_forms.proofs.Rational.{ring_ℚ, den_positive}
 use Rattle.fraction128.specs.Recipes.{mul_ops, add_ops, sub_ops}
@@ -31,26 +32,17 @@ neg_zero = ring_ℚ [] (neg (num (pos 0))) (num (pos 0)) refl
 both_fit : {V : Type 0} (a b c d : ℤ) (v : V) → nat_abs (a *ℤ b) < 2 ^ 127 → nat_abs (c *ℤ d) < 2 ^ 127 → answer is_owed (mul_op a b ∷ mul_op c d ∷ []) v ≡ Ok v
 both_fit a b c d v h k = passed_over (mul_op a b) (mul_op c d ∷ []) v h ∙ passed_over (mul_op c d) [] v k ∙ answer_nothing is_owed v
 
-zero_times : (x : ℤ) → pos 0 *ℤ x ≡ pos 0
-zero_times x = omega (arith, ints)
-
-times_zero : (x : ℤ) → x *ℤ pos 0 ≡ pos 0
-times_zero x = omega (arith, ints)
-
 one : nat_abs (pos 1) < 2 ^ 127
 one = lit< tt
 
 none : nat_abs (pos 0) < 2 ^ 127
 none = lit< tt
 
-over_itself : (n : ℕ) → 0 < n → n / n ≡ 1
-over_itself n p = div_self p
-
 over_one : (n h : ℕ) → n ≡ 1 → h ≡ 1 → n / h ≡ 1
 over_one n h e k = ap₂ (λ (a : ℕ) (b : ℕ). a / b) e k
 
 over_same : (n g : ℕ) → 0 < n → g ≡ n → n / g ≡ 1
-over_same n g p e = ap (λ (m : ℕ). n / m) e ∙ over_itself n p
+over_same n g p e = ap (λ (m : ℕ). n / m) e ∙ div_self p
 
 ones : (a b : ℕ) → a ≡ 1 → b ≡ 1 → pos a *ℤ pos b ≡ pos 1
 ones a b e k = ap₂ (λ (a : ℕ) (b : ℕ). pos a *ℤ pos b) e k
@@ -59,10 +51,10 @@ moved : (x y : ℤ) → x ≡ y → nat_abs y < 2 ^ 127 → nat_abs x < 2 ^ 127
 moved x y e h = subst (λ (z : ℤ). nat_abs z < 2 ^ 127) (sym e) h
 
 zero_left : (n w : ℤ) (g : ℕ) → n ≡ pos 0 → divided n g *ℤ w ≡ pos 0
-zero_left n w g e = ap (λ (n : ℤ). divided n g *ℤ w) e ∙ ap (λ (m : ℕ). pos m *ℤ w) (zero-div g) ∙ zero_times w
+zero_left n w g e = ap (λ (n : ℤ). divided n g *ℤ w) e ∙ ap (λ (m : ℕ). pos m *ℤ w) (zero-div g) ∙ zero_mul_ℤ w
 
 zero_right : (n w : ℤ) (g : ℕ) → n ≡ pos 0 → w *ℤ divided n g ≡ pos 0
-zero_right n w g e = ap (λ (n : ℤ). w *ℤ divided n g) e ∙ ap (λ (m : ℕ). w *ℤ pos m) (zero-div g) ∙ times_zero w
+zero_right n w g e = ap (λ (n : ℤ). w *ℤ divided n g) e ∙ ap (λ (m : ℕ). w *ℤ pos m) (zero-div g) ∙ mul_zero_ℤ w
 
 pub zero_product : {V : Type 0} (y : Rational) (v : V) → answer is_owed (mul_ops (whole (pos 0)) y) v ≡ Ok v
 unfolding mul_ops
@@ -87,7 +79,7 @@ sum_fits : {V : Type 0} (a : ℤ) (d : ℕ) (v : V) → nat_abs a < 2 ^ 127 → 
     → answer is_owed (mul_op a (pos 1) ∷ mul_op (pos 0) (pos d) ∷ add_op (a *ℤ pos 1) (pos 0 *ℤ pos d) ∷ mul_op (pos d) (pos 1) ∷ []) v ≡ Ok v
 sum_fits a d v ha hd =
     let one : a *ℤ pos 1 ≡ a = omega (arith, ints) in
-    let zero : pos 0 *ℤ pos d ≡ pos 0 = zero_times (pos d) in
+    let zero : pos 0 *ℤ pos d ≡ pos 0 = zero_mul_ℤ (pos d) in
     let total : a *ℤ pos 1 +ℤ pos 0 *ℤ pos d ≡ a = ap₂ (λ (x : ℤ) (y : ℤ). x +ℤ y) one zero ∙ (let e : a +ℤ pos 0 ≡ a = omega (arith, ints) in e) in
     let last : pos d *ℤ pos 1 ≡ pos d = omega (arith, ints) in
     passed_over (mul_op a (pos 1)) _ v (moved _ a one ha)
@@ -99,8 +91,10 @@ sum_fits a d v ha hd =
 sum_list : {V : Type 0} (a z : ℤ) (d own its h : ℕ) (v : V) → nat_abs a < 2 ^ 127 → d < 2 ^ 127 → z ≡ pos 0 → own ≡ d → its ≡ 1 → h ≡ 1
     → answer is_owed (mul_op a (pos its) ∷ mul_op z (pos own) ∷ add_op (a *ℤ pos its) (z *ℤ pos own) ∷ mul_op (pos own) (pos h) ∷ []) v ≡ Ok v
 sum_list a z d own its h v ha hd ez eo ei eh =
-    ap₂ (λ (z : ℤ) (own : ℕ). answer is_owed (mul_op a (pos its) ∷ mul_op z (pos own) ∷ add_op (a *ℤ pos its) (z *ℤ pos own) ∷ mul_op (pos own) (pos h) ∷ []) v) ez eo
-    ∙ ap₂ (λ (its : ℕ) (h : ℕ). answer is_owed (mul_op a (pos its) ∷ mul_op (pos 0) (pos d) ∷ add_op (a *ℤ pos its) (pos 0 *ℤ pos d) ∷ mul_op (pos d) (pos h) ∷ []) v) ei eh
+    ap₂ (λ (z : ℤ) (own : ℕ). answer is_owed (mul_op a (pos its) ∷ mul_op z (pos own) ∷ add_op (a *ℤ pos its) (z *ℤ pos own) ∷ mul_op (pos own) (pos h) ∷ []) v)
+    ez eo
+    ∙ ap₂ (λ (its : ℕ) (h : ℕ). answer is_owed (mul_op a (pos its) ∷ mul_op (pos 0) (pos d) ∷ add_op (a *ℤ pos its) (pos 0 *ℤ pos d) ∷ mul_op (pos d) (pos h)
+    ∷ []) v) ei eh
     ∙ sum_fits a d v ha hd
 
 pub sum_zero : {V : Type 0} (x : Rational) (v : V) → nat_abs x.num < 2 ^ 127 → x.den < 2 ^ 127 → answer is_owed (add_ops x (whole (pos 0))) v ≡ Ok v
@@ -110,14 +104,16 @@ sum_zero x v ha hd =
     sum_list x.num (whole (pos 0)).num x.den _ _ _ v ha hd zero_num
     (ap (λ (n : ℕ). x.den / n) g ∙ div-one x.den)
     (over_one _ _ zero_den g)
-    (over_one _ _ zero_den (ap (λ (n : ℕ). gcd_of (nat_abs (x.num *ℤ pos ((whole (pos 0)).den / n) +ℤ (whole (pos 0)).num *ℤ pos (x.den / n))) n) g ∙ gcd_of_one _))
+    (over_one _ _ zero_den (ap (λ (n : ℕ). gcd_of (nat_abs (x.num *ℤ pos ((whole (pos 0)).den / n) +ℤ (whole (pos 0)).num *ℤ pos (x.den / n))) n) g
+    ∙ gcd_of_one _))
 
 pub difference_zero : {V : Type 0} (x : Rational) (v : V) → nat_abs x.num < 2 ^ 127 → x.den < 2 ^ 127 → answer is_owed (sub_ops x (whole (pos 0))) v ≡ Ok v
 unfolding sub_ops
 difference_zero x v ha hd = ap (λ (y : Rational). answer is_owed (add_ops x y) v) neg_zero ∙ sum_zero x v ha hd
 
 -- ---- of an entry
-kept_product : (i j : ℕ) (x f y z : Rational) → nat_abs x.num < 2 ^ 127 → x.den < 2 ^ 127 → answer is_owed (mul_ops f y) (tt {0}) ≡ Ok (tt {0}) → f *ℚ y ≡ whole (pos 0)
+kept_product : (i j : ℕ) (x f y z : Rational) → nat_abs x.num < 2 ^ 127 → x.den < 2 ^ 127 → answer is_owed (mul_ops f y) (tt {0}) ≡ Ok (tt {0})
+    → f *ℚ y ≡ whole (pos 0)
     → Ok x ≡ answer entry_is_owed (clear_entry i j x f y) (x -ℚ f *ℚ y)
 unfolding clear_entry multiply_entry subtract_entry ◌-ℚ◌
 kept_product i j x f y z ha hd none e =

@@ -33,13 +33,15 @@ no_matrix = record { size = 0; lower = [] }
 
 unfoldable pub start_cell : ℕ → List Symmetric → ℕ → ℕ → Rational
 start_cell units given k j =
-    if nat_lt j units then (if nat_eq k j then whole (pos 1) else whole (pos 0)) else whole (slice_index_or (slice_index_or given (j - units) no_matrix).lower k (pos 0))
+    if nat_lt j units then (if nat_eq k j then whole (pos 1) else whole (pos 0)) else whole
+    (slice_index_or (slice_index_or given (j - units) no_matrix).lower k (pos 0))
 
 abbrev pub width_of : ℕ → List Symmetric → ℕ
 width_of n given = triangle n + length given + 1
 
 abbrev pub columns_of : ℕ → List Symmetric → Columns
-columns_of n given = record { size = n; count = width_of n given; entry = λ j a b. start_cell (triangle n) given (place_in a b) j }
+columns_of n given =
+    record { size = n; count = width_of n given; entry = λ j a b. start_cell (triangle n) given (place_in a b) j }
 
 abbrev pub start_table : ℕ → List Symmetric → Table
 start_table n given = record {
@@ -59,7 +61,8 @@ abbrev pub with_sum_of : Columns → Table → Columns
 with_sum_of A t = record {
   size = A.size;
   count = A.count;
-  entry = λ j a b. if nat_eq (j + 1) A.count then sum_ℚ (rows_of t) (λ i. A.entry (basic_at t i) a b) else A.entry j a b;
+  entry = λ j a b. if nat_eq (j + 1) A.count then sum_ℚ (rows_of t) (λ i. A.entry (basic_at t i) a b) else A.entry j a
+      b;
 }
 
 pub record HasCoordinates (A : Columns) (t : Table) : Type 0 where

@@ -75,11 +75,14 @@ next_column w i j = if nat_lt (j + 1) w then j + 1 else 0
 -- what is left to do at row i, column j; old is the whole table, new the new row r
 unfoldable pub rest_ops : ℕ → ℕ → ℕ → List Rational → List Rational → List Rational → ℕ → ℕ → List EntryOp
 rest_ops r c w new old [] i j = []
-rest_ops r c w new old (x ∷ xs) i j = cell_ops r i j x (entry_of old (i * w + c)) (entry_of new j) ++ rest_ops r c w new old xs (next_row w i j) (next_column w i j)
+rest_ops r c w new old (x ∷ xs) i j = cell_ops r i j x (entry_of old (i * w + c)) (entry_of new j)
+    ++ rest_ops r c w new old xs (next_row w i j) (next_column w i j)
 
 unfoldable pub rest_cells : ℕ → ℕ → ℕ → List Rational → List Rational → List Rational → ℕ → ℕ → List Rational
 rest_cells r c w new old [] i j = []
-rest_cells r c w new old (x ∷ xs) i j = new_cell r i x (entry_of old (i * w + c)) (entry_of new j) ∷ rest_cells r c w new old xs (next_row w i j) (next_column w i j)
+rest_cells r c w new old (x ∷ xs) i j =
+    new_cell r i x (entry_of old (i * w + c)) (entry_of new j)
+    ∷ rest_cells r c w new old xs (next_row w i j) (next_column w i j)
 
 abbrev pub table_row : ℕ → List Rational → ℕ → List Rational
 table_row w old r = slice_range old (r * w) (r * w + w)
@@ -88,7 +91,8 @@ unfoldable pub pivot_row : ℕ → List Rational → ℕ → ℕ → List Ration
 pivot_row w old r c = divided_row (entry_of old (r * w + c)) (table_row w old r)
 
 unfoldable pub table_ops : ℕ → List Rational → ℕ → ℕ → List EntryOp
-table_ops w old r c = divide_ops r 0 (entry_of old (r * w + c)) (table_row w old r) ++ rest_ops r c w (pivot_row w old r c) old old 0 0
+table_ops w old r c = divide_ops r 0 (entry_of old (r * w + c)) (table_row w old r)
+    ++ rest_ops r c w (pivot_row w old r c) old old 0 0
 
 unfoldable pub table_cells : ℕ → List Rational → ℕ → ℕ → List Rational
 table_cells w old r c = rest_cells r c w (pivot_row w old r c) old old 0 0

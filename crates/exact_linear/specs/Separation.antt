@@ -22,4 +22,5 @@ pub record IsSeparating (n : ℕ) (vectors : List (List ℕ)) (s : Symmetric) (z
   pub number : length zeros + 1 ≡ triangle n
   pub independent : AreIndependent n (named vectors (zeros ++ leaving ∷ []))
   pub extreme : (r : Matrix) → IsRay n (named vectors zeros) (vector_at vectors leaving) r → IsExtremeRay n r vectors
-  pub separates : (r : Matrix) → IsRay n (named vectors zeros) (vector_at vectors leaving) r → inner n r (entry s) <ℤ pos 0
+  pub separates : (r : Matrix) → IsRay n (named vectors zeros) (vector_at vectors leaving) r
+      → inner n r (entry s) <ℤ pos 0

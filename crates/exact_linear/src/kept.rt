@@ -268,7 +268,8 @@ fn fill_last_wholes(width: usize, rows: usize, den: i64, wholes: &mut [i64])
     requires den { pos 1 ≤ℤ den }
     requires den_small { nat_abs den < 2 ^ 63 }
     requires small { AreSmallWholes wholes.old }
-    ensures made { fractions_over (nat_abs den) wholes.new ≡ with_ones rows width (fractions_over (nat_abs den) wholes.old) }
+    ensures made { fractions_over (nat_abs den) wholes.new
+        ≡ with_ones rows width (fractions_over (nat_abs den) wholes.old) }
     ensures small { AreSmallWholes wholes.new }
 {
     for k in 0..wholes.len() {

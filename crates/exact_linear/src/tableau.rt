@@ -131,7 +131,8 @@ impl Tableau {
     pub fn sum_of_basis(&mut self)
         requires { IsLastFree self.old }
         ensures sum { self.new ≡ with_sum self.old }
-        ensures coordinates { (A : Columns) → HasCoordinates A self.old → HasCoordinates (with_sum_of A self.old) self.new }
+        ensures coordinates { (A : Columns) → HasCoordinates A self.old
+            → HasCoordinates (with_sum_of A self.old) self.new }
     {
         self.fill_last();
     }

@@ -1,5 +1,6 @@
 -- The choices on a table, as loops make them.
-use Rattle.std.specs.Prelude.{◌≡◌, ◌≢◌, ℕ, suc, ◌+◌, ◌-◌, ◌<◌, ◌≤◌, ℤ, pos, negsuc, Bool, true, false, not, ◌&&◌, List, [], ◌∷◌, ◌++◌, length, drop, get_or, Option, Some, None, IfSome, Ok, Err, if◌then◌else◌, nat_eq, nat_lt}
+use Rattle.std.specs.Prelude.{◌≡◌, ◌≢◌, ℕ, suc, ◌+◌, ◌-◌, ◌<◌, ◌≤◌, ℤ, pos, negsuc, Bool, true, false, not, ◌&&◌, List, [], ◌∷◌, ◌++◌, length, drop, get_or}
+use Rattle.std.specs.Prelude.{Option, Some, None, IfSome, Ok, Err, if◌then◌else◌, nat_eq, nat_lt}
 use Rattle.std.proofs.Common.{arith, sym, ◌∙◌, ap, ap₂, subst, drop_of_length-le, append-nil}
 use Rattle.std.specs.declared.cmp.Ordering.{Ordering}
 use Rattle.std.specs.declared.cmp.Ordering.TheVariants.{Less, Equal, Greater}
@@ -13,13 +14,15 @@ use Rattle.exact_linear.specs.Tables.{Table, rows_of, table_entry, basic_at, fir
 use Rattle.exact_linear.specs.Exchange.{entry_is_owed, divide_entry}
 use Rattle.exact_linear.proofs.BringIn.{is_zero_of}
 use Rattle.exact_linear.proofs.Places.{first_found}
-use Rattle.exact_lp.specs.Rule.{target, top, is_negative, is_positive, is_inside, first_columns, is_below, is_settled, is_lower, least_row, goes_down, top_row, entering, ratio_at, beats, versus_ops, is_candidate, better, better_ops, leaving_row, leaving_ops}
+use Rattle.exact_lp.specs.Rule.{target, top, is_negative, is_positive, is_inside, first_columns, is_below, is_settled, is_lower, least_row, goes_down, top_row}
+use Rattle.exact_lp.specs.Rule.{entering, ratio_at, beats, versus_ops, is_candidate, better, better_ops, leaving_row, leaving_ops}
 
 -- ---- tests of numbers
 pub positive_not_zero_test : (x : Rational) → is_positive x ≡ true → x ≢ whole (pos 0)
 positive_not_zero_test x h e = by x.num h (is_zero_of x e)
   where
-    by : (n : ℤ) → elim n as (λ _. Bool) [ pos n ↦ nat_lt 0 n | negsuc n ↦ false ] ≡ true → elim n as (λ _. Bool) [ pos n ↦ nat_eq n 0 | negsuc n ↦ false ] ≡ true → ⊥
+    by : (n : ℤ) → elim n as (λ _. Bool) [ pos n ↦ nat_lt 0 n | negsuc n ↦ false ] ≡ true
+        → elim n as (λ _. Bool) [ pos n ↦ nat_eq n 0 | negsuc n ↦ false ] ≡ true → ⊥
     by (pos n) h k = both n h k
       where
         both : (n : ℕ) → nat_lt 0 n ≡ true → nat_eq n 0 ≡ true → ⊥
@@ -47,7 +50,8 @@ pub record IsLeastSoFar (t : Table) (m best i : ℕ) : Type 0 where
   pub same : least_row t m 0 1 (rows_of t - 1) ≡ least_row t m best i (rows_of t - i)
   pub within : best < rows_of t
 
-least_next : (t : Table) (m best i : ℕ) → i < rows_of t → least_row t m best i (rows_of t - i) ≡ least_row t m (if is_lower t m best i then i else best) (i + 1) (rows_of t - (i + 1))
+least_next : (t : Table) (m best i : ℕ) → i < rows_of t
+    → least_row t m best i (rows_of t - i) ≡ least_row t m (if is_lower t m best i then i else best) (i + 1) (rows_of t - (i + 1))
 unfolding least_row
 least_next t m best i l = ap (λ (k : ℕ). least_row t m best i k) (let e : rows_of t - i ≡ suc (rows_of t - (i + 1)) = omega arith in e)
 
@@ -77,7 +81,8 @@ pub record IsComparing (t : Table) (e b i : ℕ) (cs : List ℕ) (k : ℕ) : Typ
   pub same : answer entry_is_owed (versus_ops t e b i cs) (beats t e b i cs) ≡ answer entry_is_owed (versus_ops t e b i (drop k cs)) (beats t e b i (drop k cs))
 
 at_column : (t : Table) (e b i : ℕ) (cs : List ℕ) (k c : ℕ) → IsComparing t e b i cs k → k < length cs → c ≡ get_or cs k 0
-    → answer entry_is_owed (versus_ops t e b i cs) (beats t e b i cs) ≡ answer entry_is_owed (versus_ops t e b i (c ∷ drop (k + 1) cs)) (beats t e b i (c ∷ drop (k + 1) cs))
+    → answer entry_is_owed (versus_ops t e b i cs) (beats t e b i cs)
+    ≡ answer entry_is_owed (versus_ops t e b i (c ∷ drop (k + 1) cs)) (beats t e b i (c ∷ drop (k + 1) cs))
 at_column t e b i cs k c C l h = C.same ∙ ap (λ (cs : List ℕ). answer entry_is_owed (versus_ops t e b i cs) (beats t e b i cs)) (drop_at cs k c l h)
 
 pub compare_refused_best : (t : Table) (e b i : ℕ) (cs : List ℕ) (k c : ℕ) (err : EntryOp) → IsComparing t e b i cs k → k < length cs → c ≡ get_or cs k 0
@@ -86,46 +91,59 @@ pub compare_refused_best : (t : Table) (e b i : ℕ) (cs : List ℕ) (k c : ℕ)
 unfolding versus_ops
 compare_refused_best t e b i cs k c err C l h f =
     at_column t e b i cs k c C l h
-    ∙ answer-append_err entry_is_owed (divide_entry b c (table_entry t b c) (table_entry t b e)) _ (ratio_at t e b c) (beats t e b i (c ∷ drop (k + 1) cs)) err f
+    ∙ answer-append_err entry_is_owed (divide_entry b c (table_entry t b c) (table_entry t b e)) _ (ratio_at t e b c) (beats t e b i (c ∷ drop (k + 1) cs)) err
+    f
+
+-- the operations that an order leaves
+abbrev pub ops_left : Table → ℕ → ℕ → ℕ → List ℕ → Ordering → List EntryOp
+ops_left t e b i cs o = elim o as (λ _. List EntryOp) [ Less ↦ [] | Equal ↦ versus_ops t e b i cs | Greater ↦ [] ]
 
 after_best : (t : Table) (e b i : ℕ) (cs : List ℕ) (k c : ℕ) (x : Rational) → IsComparing t e b i cs k → k < length cs → c ≡ get_or cs k 0
     → answer entry_is_owed (divide_entry b c (table_entry t b c) (table_entry t b e)) (ratio_at t e b c) ≡ Ok x
     → answer entry_is_owed (versus_ops t e b i cs) (beats t e b i cs)
-    ≡ answer entry_is_owed (divide_entry i c (table_entry t i c) (table_entry t i e) ++ elim (order_of (ratio_at t e i c) (ratio_at t e b c)) as (λ _. List EntryOp) [ Less ↦ [] | Equal ↦ versus_ops t e b i (drop (k + 1) cs) | Greater ↦ [] ]) (beats t e b i (c ∷ drop (k + 1) cs))
+    ≡ answer entry_is_owed (divide_entry i c (table_entry t i c) (table_entry t i e)
+    ++ ops_left t e b i (drop (k + 1) cs) (order_of (ratio_at t e i c) (ratio_at t e b c))) (beats t e b i (c ∷ drop (k + 1) cs))
 unfolding versus_ops
 after_best t e b i cs k c x C l h f =
     at_column t e b i cs k c C l h
-    ∙ (answer-append_ok entry_is_owed (divide_entry b c (table_entry t b c) (table_entry t b e)) _ (ratio_at t e b c) x (beats t e b i (c ∷ drop (k + 1) cs)) f).0
+    ∙ (answer-append_ok entry_is_owed (divide_entry b c (table_entry t b c) (table_entry t b e)) _ (ratio_at t e b c) x (beats t e b i (c ∷ drop (k + 1) cs))
+    f).0
 
-pub compare_refused_own : (t : Table) (e b i : ℕ) (cs : List ℕ) (k c : ℕ) (x : Rational) (err : EntryOp) → IsComparing t e b i cs k → k < length cs → c ≡ get_or cs k 0
+pub compare_refused_own : (t : Table) (e b i : ℕ) (cs : List ℕ) (k c : ℕ) (x : Rational) (err : EntryOp) → IsComparing t e b i cs k → k < length cs
+    → c ≡ get_or cs k 0
     → answer entry_is_owed (divide_entry b c (table_entry t b c) (table_entry t b e)) (ratio_at t e b c) ≡ Ok x
     → answer entry_is_owed (divide_entry i c (table_entry t i c) (table_entry t i e)) (ratio_at t e i c) ≡ Err err
     → answer entry_is_owed (versus_ops t e b i cs) (beats t e b i cs) ≡ Err err
 compare_refused_own t e b i cs k c x err C l h f g =
     after_best t e b i cs k c x C l h f
-    ∙ answer-append_err entry_is_owed (divide_entry i c (table_entry t i c) (table_entry t i e)) _ (ratio_at t e i c) (beats t e b i (c ∷ drop (k + 1) cs)) err g
+    ∙ answer-append_err entry_is_owed (divide_entry i c (table_entry t i c) (table_entry t i e)) _ (ratio_at t e i c) (beats t e b i (c ∷ drop (k + 1) cs)) err
+    g
 
 -- the order of the two quotients decides, or the columns that are left
-pub compare_both : (t : Table) (e b i : ℕ) (cs : List ℕ) (k c : ℕ) (x y : Rational) (o : Ordering) → IsComparing t e b i cs k → k < length cs → c ≡ get_or cs k 0
+pub compare_both : (t : Table) (e b i : ℕ) (cs : List ℕ) (k c : ℕ) (x y : Rational) (o : Ordering) → IsComparing t e b i cs k → k < length cs
+    → c ≡ get_or cs k 0
     → answer entry_is_owed (divide_entry b c (table_entry t b c) (table_entry t b e)) (ratio_at t e b c) ≡ Ok x
     → answer entry_is_owed (divide_entry i c (table_entry t i c) (table_entry t i e)) (ratio_at t e i c) ≡ Ok y
     → o ≡ order_of y x
     → answer entry_is_owed (versus_ops t e b i cs) (beats t e b i cs)
-    ≡ answer entry_is_owed (elim o as (λ _. List EntryOp) [ Less ↦ [] | Equal ↦ versus_ops t e b i (drop (k + 1) cs) | Greater ↦ [] ])
+    ≡ answer entry_is_owed (ops_left t e b i (drop (k + 1) cs) o)
     (elim o as (λ _. Bool) [ Less ↦ true | Equal ↦ beats t e b i (drop (k + 1) cs) | Greater ↦ false ])
 unfolding beats
 compare_both t e b i cs k c x y o C l h f g r =
     let best = answer-append_ok entry_is_owed (divide_entry b c (table_entry t b c) (table_entry t b e)) [] (ratio_at t e b c) x (tt {0}) f in
-    let own = answer-append_ok entry_is_owed (divide_entry i c (table_entry t i c) (table_entry t i e)) (elim (order_of (ratio_at t e i c) (ratio_at t e b c)) as (λ _. List EntryOp) [ Less ↦ [] | Equal ↦ versus_ops t e b i (drop (k + 1) cs) | Greater ↦ [] ])
+    let own = answer-append_ok entry_is_owed (divide_entry i c (table_entry t i c) (table_entry t i e))
+    (ops_left t e b i (drop (k + 1) cs) (order_of (ratio_at t e i c) (ratio_at t e b c)))
     (ratio_at t e i c) y (beats t e b i (c ∷ drop (k + 1) cs)) g in
     let same : order_of (ratio_at t e i c) (ratio_at t e b c) ≡ o = ap₂ (λ (y : Rational) (x : Rational). order_of y x) own.1 best.1 ∙ sym r in
     after_best t e b i cs k c x C l h f ∙ own.0
-    ∙ ap (λ (o : Ordering). answer entry_is_owed (elim o as (λ _. List EntryOp) [ Less ↦ [] | Equal ↦ versus_ops t e b i (drop (k + 1) cs) | Greater ↦ [] ])
+    ∙ ap (λ (o : Ordering). answer entry_is_owed (ops_left t e b i (drop (k + 1) cs) o)
     (elim o as (λ _. Bool) [ Less ↦ true | Equal ↦ beats t e b i (drop (k + 1) cs) | Greater ↦ false ])) same
 
-pub compare_done : (t : Table) (e b i : ℕ) (cs : List ℕ) (k : ℕ) → IsComparing t e b i cs k → length cs ≤ k → Ok false ≡ answer entry_is_owed (versus_ops t e b i cs) (beats t e b i cs)
+pub compare_done : (t : Table) (e b i : ℕ) (cs : List ℕ) (k : ℕ) → IsComparing t e b i cs k → length cs ≤ k
+    → Ok false ≡ answer entry_is_owed (versus_ops t e b i cs) (beats t e b i cs)
 unfolding versus_ops beats answer
-compare_done t e b i cs k C l = sym (C.same ∙ ap (λ (cs : List ℕ). answer entry_is_owed (versus_ops t e b i cs) (beats t e b i cs)) (drop_of_length-le cs {i = k} l))
+compare_done t e b i cs k C l =
+    sym (C.same ∙ ap (λ (cs : List ℕ). answer entry_is_owed (versus_ops t e b i cs) (beats t e b i cs)) (drop_of_length-le cs {i = k} l))
 
 -- ---- the leaving row
 pub record IsCandidateRow (t : Table) (m e b : ℕ) : Type 0 where
@@ -139,25 +157,31 @@ pub record IsBestSoFar (t : Table) (m e : ℕ) (cs : List ℕ) (best : Option �
 
 at_row : (t : Table) (m e : ℕ) (cs : List ℕ) (best : Option ℕ) (i : ℕ) (b : Bool) → i < rows_of t → is_candidate t m e i ≡ b
     → answer entry_is_owed (leaving_ops t m e cs best i (rows_of t - i)) (leaving_row t m e cs best i (rows_of t - i))
-    ≡ answer entry_is_owed ((if b then better_ops t e cs best i else []) ++ leaving_ops t m e cs (if b then better t e cs best i else best) (i + 1) (rows_of t - (i + 1)))
+    ≡ answer entry_is_owed ((if b then better_ops t e cs best i else [])
+    ++ leaving_ops t m e cs (if b then better t e cs best i else best) (i + 1) (rows_of t - (i + 1)))
     (leaving_row t m e cs (if b then better t e cs best i else best) (i + 1) (rows_of t - (i + 1)))
 unfolding leaving_ops leaving_row
 at_row t m e cs best i b l h =
-    ap (λ (k : ℕ). answer entry_is_owed (leaving_ops t m e cs best i k) (leaving_row t m e cs best i k)) (let e : rows_of t - i ≡ suc (rows_of t - (i + 1)) = omega arith in e)
-    ∙ ap (λ (b : Bool). answer entry_is_owed ((if b then better_ops t e cs best i else []) ++ leaving_ops t m e cs (if b then better t e cs best i else best) (i + 1) (rows_of t - (i + 1)))
+    ap (λ (k : ℕ). answer entry_is_owed (leaving_ops t m e cs best i k) (leaving_row t m e cs best i k))
+    (let e : rows_of t - i ≡ suc (rows_of t - (i + 1)) = omega arith in e)
+    ∙ ap (λ (b : Bool). answer entry_is_owed ((if b then better_ops t e cs best i else [])
+    ++ leaving_ops t m e cs (if b then better t e cs best i else best) (i + 1) (rows_of t - (i + 1)))
     (leaving_row t m e cs (if b then better t e cs best i else best) (i + 1) (rows_of t - (i + 1)))) h
 
-pub best_passed : (t : Table) (m e : ℕ) (cs : List ℕ) (best : Option ℕ) (i : ℕ) → IsBestSoFar t m e cs best i → i < rows_of t → is_candidate t m e i ≡ false → IsBestSoFar t m e cs best (i + 1)
+pub best_passed : (t : Table) (m e : ℕ) (cs : List ℕ) (best : Option ℕ) (i : ℕ) → IsBestSoFar t m e cs best i → i < rows_of t → is_candidate t m e i ≡ false
+    → IsBestSoFar t m e cs best (i + 1)
 best_passed t m e cs best i S l h = record { same = S.same ∙ at_row t m e cs best i false l h; found = S.found }
 
-pub best_refused : (t : Table) (m e : ℕ) (cs : List ℕ) (best : Option ℕ) (i : ℕ) (err : EntryOp) → IsBestSoFar t m e cs best i → i < rows_of t → is_candidate t m e i ≡ true
+pub best_refused : (t : Table) (m e : ℕ) (cs : List ℕ) (best : Option ℕ) (i : ℕ) (err : EntryOp) → IsBestSoFar t m e cs best i → i < rows_of t
+    → is_candidate t m e i ≡ true
     → answer entry_is_owed (better_ops t e cs best i) (better t e cs best i) ≡ Err err
     → answer entry_is_owed (leaving_ops t m e cs None 0 (rows_of t)) (leaving_row t m e cs None 0 (rows_of t)) ≡ Err err
 best_refused t m e cs best i err S l h f =
     S.same ∙ at_row t m e cs best i true l h
     ∙ answer-append_err entry_is_owed (better_ops t e cs best i) _ (better t e cs best i) _ err f
 
-pub better_found : (t : Table) (m e : ℕ) (cs : List ℕ) (best : Option ℕ) (i : ℕ) → IfSome best (IsCandidateRow t m e) → IsCandidateRow t m e i → IfSome (better t e cs best i) (IsCandidateRow t m e)
+pub better_found : (t : Table) (m e : ℕ) (cs : List ℕ) (best : Option ℕ) (i : ℕ) → IfSome best (IsCandidateRow t m e) → IsCandidateRow t m e i
+    → IfSome (better t e cs best i) (IsCandidateRow t m e)
 better_found t m e cs None i f c = c
 better_found t m e cs (Some b) i f c = by (beats t e b i cs)
   where
@@ -168,11 +192,13 @@ better_found t m e cs (Some b) i f c = by (beats t e b i cs)
 pub best_more : (t : Table) (m e : ℕ) (cs : List ℕ) (best new : Option ℕ) (i : ℕ) → IsBestSoFar t m e cs best i → i < rows_of t → is_candidate t m e i ≡ true
     → answer entry_is_owed (better_ops t e cs best i) (better t e cs best i) ≡ Ok new → IsBestSoFar t m e cs new (i + 1)
 best_more t m e cs best new i S l h f =
-    let made = answer-append_ok entry_is_owed (better_ops t e cs best i) (leaving_ops t m e cs (better t e cs best i) (i + 1) (rows_of t - (i + 1))) (better t e cs best i) new
+    let made = answer-append_ok entry_is_owed (better_ops t e cs best i) (leaving_ops t m e cs (better t e cs best i) (i + 1) (rows_of t - (i + 1)))
+    (better t e cs best i) new
     (leaving_row t m e cs (better t e cs best i) (i + 1) (rows_of t - (i + 1))) f in
     record {
       same = S.same ∙ at_row t m e cs best i true l h ∙ made.0
-          ∙ ap (λ (b : Option ℕ). answer entry_is_owed (leaving_ops t m e cs b (i + 1) (rows_of t - (i + 1))) (leaving_row t m e cs b (i + 1) (rows_of t - (i + 1)))) made.1;
+          ∙ ap (λ (b : Option ℕ). answer entry_is_owed (leaving_ops t m e cs b (i + 1) (rows_of t - (i + 1)))
+          (leaving_row t m e cs b (i + 1) (rows_of t - (i + 1)))) made.1;
       found = subst (λ (b : Option ℕ). IfSome b (IsCandidateRow t m e)) made.1 (better_found t m e cs best i S.found record { row = l; candidate = h });
     }
 
@@ -180,7 +206,8 @@ pub best_done : (t : Table) (m e : ℕ) (cs : List ℕ) (best : Option ℕ) (i :
     → Ok best ≡ answer entry_is_owed (leaving_ops t m e cs None 0 (rows_of t)) (leaving_row t m e cs None 0 (rows_of t))
 unfolding leaving_ops leaving_row answer
 best_done t m e cs best i S l =
-    sym (S.same ∙ ap (λ (k : ℕ). answer entry_is_owed (leaving_ops t m e cs best i k) (leaving_row t m e cs best i k)) (let e : rows_of t - i ≡ 0 = omega arith in e))
+    sym (S.same ∙ ap (λ (k : ℕ). answer entry_is_owed (leaving_ops t m e cs best i k) (leaving_row t m e cs best i k))
+    (let e : rows_of t - i ≡ 0 = omega arith in e))
 
 pub candidate_not_zero : (t : Table) (m e b : ℕ) → is_candidate t m e b ≡ true → table_entry t b e ≢ whole (pos 0)
 candidate_not_zero t m e b h = positive_not_zero_test (table_entry t b e) (second (not (nat_eq (basic_at t b) (top t m))) (is_positive (table_entry t b e)) h)
@@ -195,19 +222,16 @@ other_value ops u z v h =
     let r = answer-append_ok entry_is_owed ops [] u z v h in
     (ap (λ (ops : List EntryOp). answer entry_is_owed ops v) (sym (append-nil ops)) ∙ r.0 ∙ answer_nothing entry_is_owed v, r.1)
 
-pub better_yes : (t : Table) (e b i : ℕ) (cs : List ℕ) (best : Option ℕ) (x : Bool) → best ≡ Some b → answer entry_is_owed (versus_ops t e b i cs) (beats t e b i cs) ≡ Ok x → x ≡ true
-    → Ok (Some i) ≡ answer entry_is_owed (better_ops t e cs best i) (better t e cs best i)
-better_yes t e b i cs best x s h k =
+pub better_as : (t : Table) (e b i : ℕ) (cs : List ℕ) (best : Option ℕ) (x y : Bool) → best ≡ Some b
+    → answer entry_is_owed (versus_ops t e b i cs) (beats t e b i cs) ≡ Ok x → x ≡ y
+    → Ok (if y then Some i else Some b) ≡ answer entry_is_owed (better_ops t e cs best i) (better t e cs best i)
+better_as t e b i cs best x y s h k =
     let o = other_value (versus_ops t e b i cs) (beats t e b i cs) x (if beats t e b i cs then Some i else Some b) h in
-    sym (ap (λ (best : Option ℕ). answer entry_is_owed (better_ops t e cs best i) (better t e cs best i)) s ∙ o.0 ∙ ap (λ (x : Bool). Ok (if x then Some i else Some b)) (o.1 ∙ k))
+    sym (ap (λ (best : Option ℕ). answer entry_is_owed (better_ops t e cs best i) (better t e cs best i)) s ∙ o.0
+    ∙ ap (λ (x : Bool). Ok (if x then Some i else Some b)) (o.1 ∙ k))
 
-pub better_no : (t : Table) (e b i : ℕ) (cs : List ℕ) (best : Option ℕ) (x : Bool) → best ≡ Some b → answer entry_is_owed (versus_ops t e b i cs) (beats t e b i cs) ≡ Ok x → x ≡ false
-    → Ok (Some b) ≡ answer entry_is_owed (better_ops t e cs best i) (better t e cs best i)
-better_no t e b i cs best x s h k =
-    let o = other_value (versus_ops t e b i cs) (beats t e b i cs) x (if beats t e b i cs then Some i else Some b) h in
-    sym (ap (λ (best : Option ℕ). answer entry_is_owed (better_ops t e cs best i) (better t e cs best i)) s ∙ o.0 ∙ ap (λ (x : Bool). Ok (if x then Some i else Some b)) (o.1 ∙ k))
-
-pub better_refused : (t : Table) (e b i : ℕ) (cs : List ℕ) (best : Option ℕ) (err : EntryOp) → best ≡ Some b → answer entry_is_owed (versus_ops t e b i cs) (beats t e b i cs) ≡ Err err
+pub better_refused : (t : Table) (e b i : ℕ) (cs : List ℕ) (best : Option ℕ) (err : EntryOp) → best ≡ Some b
+    → answer entry_is_owed (versus_ops t e b i cs) (beats t e b i cs) ≡ Err err
     → answer entry_is_owed (better_ops t e cs best i) (better t e cs best i) ≡ Err err
 better_refused t e b i cs best err s h =
     ap (λ (best : Option ℕ). answer entry_is_owed (better_ops t e cs best i) (better t e cs best i)) s
@@ -247,4 +271,6 @@ some_not_zero t m e (Some b) h = candidate_not_zero t m e b h.candidate
 
 pub columns_start : (t : Table) (m u : ℕ) (xs : List ℕ) → u ≡ rows_of t → xs ≡ [] → IsGathered (first_columns t m) xs (is_basic t) u (rows_of t + m)
 unfolding first_columns
-columns_start t m u xs e f = subst (λ (u : ℕ). IsGathered (places_where (is_basic t) (rows_of t) m) xs (is_basic t) u (rows_of t + m)) (sym e) (gather_start (is_basic t) (rows_of t) m xs f)
+columns_start t m u xs e f =
+    subst (λ (u : ℕ). IsGathered (places_where (is_basic t) (rows_of t) m) xs (is_basic t) u (rows_of t + m)) (sym e)
+    (gather_start (is_basic t) (rows_of t) m xs f)

@@ -46,7 +46,9 @@ pub three_lengths : (k : ℕ) → k < length (start_list 2) → length (slice_in
 three_lengths = subst (λ (xs : List (List ℕ)). (k : ℕ) → k < length xs → length (slice_index_or xs k []) ≡ 2) (sym three_is) lengths
 
 pub four_lengths : (k : ℕ) → k < length (start_list 2 ++ (2 ∷ 1 ∷ []) ∷ []) → length (slice_index_or (start_list 2 ++ (2 ∷ 1 ∷ []) ∷ []) k []) ≡ 2
-four_lengths = subst (λ (xs : List (List ℕ)). (k : ℕ) → k < length (xs ++ (2 ∷ 1 ∷ []) ∷ []) → length (slice_index_or (xs ++ (2 ∷ 1 ∷ []) ∷ []) k []) ≡ 2) (sym three_is) four_lengths_at
+four_lengths =
+    subst (λ (xs : List (List ℕ)). (k : ℕ) → k < length (xs ++ (2 ∷ 1 ∷ []) ∷ [])
+    → length (slice_index_or (xs ++ (2 ∷ 1 ∷ []) ∷ []) k []) ≡ 2) (sym three_is) four_lengths_at
 
 one_length_at : (k : ℕ) → k < length one → length (slice_index_or one k []) ≡ 1
 one_length_at zero l = refl
@@ -60,16 +62,6 @@ fourth_follows = subst (λ (xs : List (List ℕ)). CanFollow xs (2 ∷ 1 ∷ [])
   where
     last : (k : ℕ) → k + 1 ≡ length three → ComesBefore (slice_index_or three k []) (2 ∷ 1 ∷ [])
     last k e = subst (λ (k : ℕ). ComesBefore (slice_index_or three k []) (2 ∷ 1 ∷ [])) (let f : 2 ≡ k = omega arith in f) (inl (omega arith))
-
-pub three_entries : (a b c : ℤ) → FitsInt a → FitsInt b → FitsInt c → IsLower 2 (a ∷ b ∷ c ∷ [])
-unfolding triangle
-three_entries a b c ha hb hc = record { entries = refl; fits = fits }
-  where
-    fits : (k : ℕ) → k < length (a ∷ b ∷ c ∷ []) → FitsInt (slice_index_or (a ∷ b ∷ c ∷ []) k (pos 0))
-    fits zero l = ha
-    fits (suc zero) l = hb
-    fits (suc (suc zero)) l = hc
-    fits (suc (suc (suc k))) l = absurd (omega arith)
 
 pub one_entry : (a : ℤ) → FitsInt a → IsLower 1 (a ∷ [])
 unfolding triangle

@@ -21,12 +21,16 @@ units_and_vectors vectors s sizes = units_and_given s.size (squares vectors ++ s
 
 -- ---- the first table
 pub first_shown : (vectors : List (List ℕ)) (s : Symmetric)
-    → IsFirstTable (start_columns vectors s) (low_of s) (low_of s + length vectors) (first_bases (start_table s.size (squares vectors ++ s ∷ [])) (length vectors))
+    → IsFirstTable (start_columns vectors s) (low_of s) (low_of s + length vectors)
+    (first_bases (start_table s.size (squares vectors ++ s ∷ [])) (length vectors))
 first_shown vectors s =
-    first_tables (start_columns vectors s) (triangle s.size) (start_table s.size (squares vectors ++ s ∷ [])) (length vectors) (start_first s.size (squares vectors ++ s ∷ []))
+    first_tables (start_columns vectors s) (triangle s.size) (start_table s.size (squares vectors ++ s ∷ [])) (length vectors)
+    (start_first s.size (squares vectors ++ s ∷ []))
     (let a = length-append (squares vectors) (s ∷ []) in let b = length-squares vectors in omega arith)
 
-pub no_unit_left : (vectors : List (List ℕ)) (s : Symmetric) (t : Table) → ((k : ℕ) → k < length vectors → length (slice_index_or vectors k []) ≡ s.size) → IsPerfect s.size vectors
+pub no_unit_left : (vectors : List (List ℕ)) (s : Symmetric) (t : Table) → ((k : ℕ) → k < length vectors → length (slice_index_or vectors k []) ≡ s.size)
+    → IsPerfect s.size vectors
     → (F : IsFirstTable (start_columns vectors s) (low_of s) (low_of s + length vectors) t) → (u : ℕ) → u < low_of s → F.basis u ≡ false
 no_unit_left vectors s t sizes perfect F u l =
-    perfect_leaves_none (start_columns vectors s) (triangle s.size) vectors (units_and_vectors vectors s sizes) F.basis F.coord F.first.basis F.first perfect u l
+    perfect_leaves_none (start_columns vectors s) (triangle s.size) vectors (units_and_vectors vectors s sizes) F.basis F.coord F.first.basis F.first perfect u
+    l

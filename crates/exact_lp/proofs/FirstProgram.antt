@@ -1,14 +1,15 @@
 -- The linear program of a perfect list of vectors, with its first basis.
-use Rattle.std.specs.Prelude.{◌≡◌, ◌≢◌, ℕ, ◌+◌, ◌-◌, ◌*◌, ◌<◌, ◌≤◌, ◌⊎◌, ℤ, pos, ◌*ℤ◌, ◌≤ℤ◌, Bool, true, false, nat_eq, cond, List, [], length, slice_index_or, if◌then◌else◌}
+use Rattle.std.specs.Prelude.{◌≡◌, ◌≢◌, ℕ, ◌+◌, ◌-◌, ◌*◌, ◌<◌, ◌≤◌, ◌⊎◌, ℤ, pos, ◌*ℤ◌, ◌≤ℤ◌, Bool, true, false, cond, List, [], length, slice_index_or}
+use Rattle.std.specs.Prelude.{if◌then◌else◌}
 use Rattle.std.proofs.Common.{arith, sym, ◌∙◌, ap, refl, subst, inl, inr}
 use Rattle.std.proofs.lemmas.Int.{ints}
+use Rattle.commutative_ring.proofs.SmallCases.{below_or_not, test_of_same, three_ways, true_or_false}
 use Rattle.exact_forms.specs.Rational.{Rational, whole}
 use Rattle.exact_forms.specs.Sums.{sum_ℚ}
 use Rattle.exact_forms.specs.Signs.{IsNonnegative}
 use Rattle.exact_forms.specs.Copositive.{IsPerfect}
 use Rattle.exact_forms.proofs.RationalSums.{sum_ℚ_same}
 use Rattle.exact_forms.proofs.Signs.{whole_nonneg, total_nonneg}
-use Rattle.exact_forms.proofs.Coordinates.{true_or_false}
 use Rattle.symmetric_matrix.specs.Symmetric.{Symmetric}
 use Rattle.exact_linear.proofs.Listed.{IsPassing, places_pass, places_increase, places_all, basic_row, row_basic, sum_listed}
 use Rattle.exact_linear.proofs.FirstTables.{IsFirstTable, first_coordinates}
@@ -28,11 +29,13 @@ pub first_pass : (t : Table) (m k : ℕ) → k < length (first_columns t m) → 
 unfolding first_columns
 first_pass t m k l = places_pass (is_basic t) (rows_of t) m k l
 
-pub first_increase : (t : Table) (m j k : ℕ) → j < k → k < length (first_columns t m) → slice_index_or (first_columns t m) j 0 < slice_index_or (first_columns t m) k 0
+pub first_increase : (t : Table) (m j k : ℕ) → j < k → k < length (first_columns t m)
+    → slice_index_or (first_columns t m) j 0 < slice_index_or (first_columns t m) k 0
 unfolding first_columns
 first_increase t m j k h l = places_increase (is_basic t) (rows_of t) m j k h l
 
-pub first_all : (t : Table) (m c : ℕ) → is_basic t c ≡ true → rows_of t ≤ c → c < rows_of t + m → (k : ℕ) × (k < length (first_columns t m)) × (slice_index_or (first_columns t m) k 0 ≡ c)
+pub first_all : (t : Table) (m c : ℕ) → is_basic t c ≡ true → rows_of t ≤ c → c < rows_of t + m
+    → (k : ℕ) × (k < length (first_columns t m)) × (slice_index_or (first_columns t m) k 0 ≡ c)
 unfolding first_columns
 first_all t m c h f b = places_all (is_basic t) (rows_of t) m c h f b
 
@@ -50,7 +53,8 @@ program_with vectors s d chosen = record {
 }
 
 -- ---- the program
-module _ (vectors : List (List ℕ)) (s : Symmetric) (d : ℤ) (some : 1 ≤ s.size) (sizes : (k : ℕ) → k < length vectors → length (slice_index_or vectors k []) ≡ s.size) (perfect : IsPerfect s.size vectors)
+module _ (vectors : List (List ℕ)) (s : Symmetric) (d : ℤ) (some : 1 ≤ s.size) (sizes : (k : ℕ) → k < length vectors
+    → length (slice_index_or vectors k []) ≡ s.size) (perfect : IsPerfect s.size vectors)
     (F : IsFirstTable (start_columns vectors s) (low_of s) (low_of s + length vectors) (first_table (problem_of vectors s d))) where
   abbrev pub the_first : Table
   the_first = first_table (problem_of vectors s d)
@@ -62,7 +66,9 @@ module _ (vectors : List (List ℕ)) (s : Symmetric) (d : ℤ) (some : 1 ≤ s.s
 
   -- the coordinates over the first basis
   abbrev pub first_coord : ℕ → ℕ → Rational
-  first_coord = summed_coord (start_columns vectors s) the_first (first_coordinates (start_columns vectors s) (low_of s) (low_of s + length vectors) the_first F) first_free
+  first_coord =
+      summed_coord (start_columns vectors s) the_first (first_coordinates (start_columns vectors s) (low_of s) (low_of s + length vectors) the_first F)
+      first_free
 
   abbrev pub the_program : Program
   the_program = program_with vectors s d F.basis
@@ -74,9 +80,6 @@ module _ (vectors : List (List ℕ)) (s : Symmetric) (d : ℤ) (some : 1 ≤ s.s
   pub basic_vector : (k : ℕ) → k < (start_columns vectors s).count → F.basis k ≡ true → (low_of s ≤ k) × (k < low_of s + length vectors)
   basic_vector k l b = (by (below_or_not k (low_of s)), by_end (below_or_not k (low_of s + length vectors)))
     where
-      below_or_not : (k n : ℕ) → (k < n) ⊎ (n ≤ k)
-      below_or_not k n = grind arith
-
       by : ((k < low_of s) ⊎ (low_of s ≤ k)) → low_of s ≤ k
       by (inr h) = h
       by (inl h) = absurd (let f = no_unit_left vectors s the_first sizes perfect F k h in cc)
@@ -104,9 +107,6 @@ module _ (vectors : List (List ℕ)) (s : Symmetric) (d : ℤ) (some : 1 ≤ s.s
   apart : (i j : ℕ) → i < the_program.rank → j < the_program.rank → i ≢ j → the_program.first i ≢ the_program.first j
   apart i j li lj ne e = by (three_ways i j)
     where
-      three_ways : (i j : ℕ) → (i < j) ⊎ ((i ≡ j) ⊎ (j < i))
-      three_ways i j = grind arith
-
       by : ((i < j) ⊎ ((i ≡ j) ⊎ (j < i))) → ⊥
       by (inl l) = let a = first_increase the_first (length vectors) i j l lj in omega arith
       by (inr (inl h)) = ne h
@@ -118,33 +118,37 @@ module _ (vectors : List (List ℕ)) (s : Symmetric) (d : ℤ) (some : 1 ≤ s.s
   -- the sum over the rows is the sum over the list
   top_is_sum : (a b : ℕ) → the_program.columns.entry the_program.top a b ≡ sum_ℚ the_program.rank (λ j. the_program.columns.entry (the_program.first j) a b)
   top_is_sum a b =
-      ap (λ (x : Bool). if x then sum_ℚ (rows_of the_first) (λ i. (start_columns vectors s).entry (basic_at the_first i) a b) else (start_columns vectors s).entry the_program.top a b) (last (the_program.top + 1) (start_columns vectors s).count (let c = size in omega arith))
+      ap (λ (x : Bool). if x then sum_ℚ (rows_of the_first) (λ i. (start_columns vectors s).entry (basic_at the_first i) a b) else
+      (start_columns vectors s).entry the_program.top a b) (test_of_same (the_program.top + 1) (start_columns vectors s).count (let c = size in
+      omega arith))
       ∙ sum_ℚ_same (rows_of the_first) _ (λ i. chosen_entry a b (basic_at the_first i)) (λ i li. sym (at_basis (basic_at the_first i) (F.shown.in_basis i li)))
-      ∙ sum_listed (start_columns vectors s).count (rows_of the_first) (basic_at the_first) (chosen_entry a b) F.shown.within (λ i j li lj ne. F.shown.apart i j li lj ne) (λ k l. each_row k l (true_or_false (F.basis k)))
-      ∙ sym (sum_listed (start_columns vectors s).count the_program.rank the_program.first (chosen_entry a b) (λ j l. let a = (is_vector j l).1 in let c = size in omega arith) apart (λ k l. each_listed k l (true_or_false (F.basis k))))
+      ∙ sum_listed (start_columns vectors s).count (rows_of the_first) (basic_at the_first) (chosen_entry a b) F.shown.within
+      (λ i j li lj ne. F.shown.apart i j li lj ne) (λ k l. each_row k l (true_or_false (F.basis k)))
+      ∙ sym (sum_listed (start_columns vectors s).count the_program.rank the_program.first (chosen_entry a b) (λ j l. let a = (is_vector j l).1 in
+      let c = size in omega arith) apart (λ k l. each_listed k l (true_or_false (F.basis k))))
       ∙ sum_ℚ_same the_program.rank _ _ (λ j l. at_basis (the_program.first j) (is_chosen j l)
       ∙ sym (other_column (start_columns vectors s) the_first (the_program.first j) a b (let v = (is_vector j l).1 in let c = size in omega arith)))
     where
-      last : (a b : ℕ) → a ≡ b → nat_eq a b ≡ true
-      last a b e = grind arith
-
       at_basis : (k : ℕ) → F.basis k ≡ true → chosen_entry a b k ≡ (start_columns vectors s).entry k a b
       at_basis k t = ap (λ (x : Bool). cond x ((start_columns vectors s).entry k a b) (whole (pos 0))) t
 
       off_basis : (k : ℕ) → F.basis k ≡ false → chosen_entry a b k ≡ whole (pos 0)
       off_basis k f = ap (λ (x : Bool). cond x ((start_columns vectors s).entry k a b) (whole (pos 0))) f
 
-      each_row : (k : ℕ) → k < (start_columns vectors s).count → ((F.basis k ≡ true) ⊎ (F.basis k ≡ false)) → ((i : ℕ) × (i < rows_of the_first) × (basic_at the_first i ≡ k)) ⊎ (chosen_entry a b k ≡ whole (pos 0))
+      each_row : (k : ℕ) → k < (start_columns vectors s).count → ((F.basis k ≡ true) ⊎ (F.basis k ≡ false))
+          → ((i : ℕ) × (i < rows_of the_first) × (basic_at the_first i ≡ k)) ⊎ (chosen_entry a b k ≡ whole (pos 0))
       each_row k l (inl t) = inl (F.shown.every k l t)
       each_row k l (inr f) = inr (off_basis k f)
 
-      each_listed : (k : ℕ) → k < (start_columns vectors s).count → ((F.basis k ≡ true) ⊎ (F.basis k ≡ false)) → ((j : ℕ) × (j < the_program.rank) × (the_program.first j ≡ k)) ⊎ (chosen_entry a b k ≡ whole (pos 0))
+      each_listed : (k : ℕ) → k < (start_columns vectors s).count → ((F.basis k ≡ true) ⊎ (F.basis k ≡ false))
+          → ((j : ℕ) × (j < the_program.rank) × (the_program.first j ≡ k)) ⊎ (chosen_entry a b k ≡ whole (pos 0))
       each_listed k l (inl t) = inl (listed k l t)
       each_listed k l (inr f) = inr (off_basis k f)
 
   pub is_program : IsProgram the_program first_coord
   is_program = record {
-    basis = summed_basis (start_columns vectors s) the_first (first_coordinates (start_columns vectors s) (low_of s) (low_of s + length vectors) the_first F) first_free;
+    basis = summed_basis (start_columns vectors s) the_first (first_coordinates (start_columns vectors s) (low_of s) (low_of s + length vectors) the_first F)
+        first_free;
     vectors = let c = size in omega arith;
     target_within = let c = size in omega arith;
     top_within = let c = size in omega arith;
@@ -171,5 +175,6 @@ module _ (vectors : List (List ℕ)) (s : Symmetric) (d : ℤ) (some : 1 ≤ s.s
   is_nonnegative = record {
     vectors = vector_nonneg;
     top = λ a b la lb. subst IsNonnegative (sym (top_is_sum a b))
-        (total_nonneg the_program.rank (λ j. the_program.columns.entry (the_program.first j) a b) (λ j l. let v = is_vector j l in vector_nonneg (the_program.first j) a b la lb v.0 v.1));
+        (total_nonneg the_program.rank (λ j. the_program.columns.entry (the_program.first j) a b) (λ j l. let v = is_vector j l in
+        vector_nonneg (the_program.first j) a b la lb v.0 v.1));
   }

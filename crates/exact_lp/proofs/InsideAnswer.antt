@@ -9,7 +9,8 @@ use Rattle.symmetric_matrix.specs.Symmetric.{Symmetric}
 use Rattle.exact_linear.proofs.FirstTables.{IsFirstTable, read_first}
 use Rattle.exact_linear.specs.Tables.{Table}
 use Rattle.exact_lp.specs.Rule.{is_inside}
-use Rattle.exact_lp.specs.Placement.{Problem, first_table, firsts, table_after, opened, is_settled_first, is_last, last_table, coefficient, weights, steps_of, IsStepDue, IsInsideAfter, problem_of}
+use Rattle.exact_lp.specs.Placement.{Problem, first_table, firsts, table_after, opened, is_settled_first, is_last, last_table, coefficient, weights, steps_of}
+use Rattle.exact_lp.specs.Placement.{IsStepDue, IsInsideAfter, problem_of}
 use Rattle.exact_lp.specs.Simplex.{basis_after, coordinates_after}
 use Rattle.exact_lp.specs.Weights.{AreWeights}
 use Rattle.exact_lp.specs.Program.{Program, IsProgram, IsNonnegativeProgram}
@@ -30,7 +31,8 @@ pub last_inside : (p : Problem) (k : ℕ) → is_last p k ≡ true → is_settle
 unfolding is_last
 last_inside p k h n = sym (ap (λ (b : Bool). b || is_inside (table_after p k) p.vectors) n) ∙ h
 
-module _ (vectors : List (List ℕ)) (s : Symmetric) (d : ℤ) (some : 1 ≤ s.size) (sizes : (k : ℕ) → k < length vectors → length (slice_index_or vectors k []) ≡ s.size) (perfect : IsPerfect s.size vectors) where
+module _ (vectors : List (List ℕ)) (s : Symmetric) (d : ℤ) (some : 1 ≤ s.size) (sizes : (k : ℕ) → k < length vectors
+    → length (slice_index_or vectors k []) ≡ s.size) (perfect : IsPerfect s.size vectors) where
   abbrev p : Problem
   p = problem_of vectors s d
 
@@ -67,12 +69,14 @@ module _ (vectors : List (List ℕ)) (s : Symmetric) (d : ℤ) (some : 1 ≤ s.s
   pub first_tableau : IsTableau linear_program (table_after p 0) (length vectors) (firsts p) open_basis open_coord
   unfolding table_after
   first_tableau =
-      subst (λ (k : ℕ). IsTableau linear_program (opened (first_table p) (length vectors)) (length vectors) (firsts p) (swapped linear_program.chosen k linear_program.top) (exchanged_coordinates start k linear_program.top))
+      subst (λ (k : ℕ). IsTableau linear_program (opened (first_table p) (length vectors)) (length vectors) (firsts p)
+      (swapped linear_program.chosen k linear_program.top) (exchanged_coordinates start k linear_program.top))
       (sym (place vectors s d some sizes perfect the_basis).2) (opened_tableau vectors s d some sizes perfect the_basis)
 
   -- the table after k steps shows a state
   pub later_tableau : (k : ℕ) → ((j : ℕ) → j < k → IsStepDue p j)
-      → IsTableau linear_program (table_after p k) (length vectors) (firsts p) (basis_after linear_program open_basis (steps_of p k) k) (coordinates_after linear_program open_coord (steps_of p k) k)
+      → IsTableau linear_program (table_after p k) (length vectors) (firsts p) (basis_after linear_program open_basis (steps_of p k) k)
+      (coordinates_after linear_program open_coord (steps_of p k) k)
   later_tableau k due =
       tableau_at linear_program p open_basis open_coord start is_linear_program is_nonnegative_program k first_tableau due k (omega arith)
 
@@ -80,16 +84,22 @@ module _ (vectors : List (List ℕ)) (s : Symmetric) (d : ℤ) (some : 1 ≤ s.s
       → (length found ≡ length vectors) × (AreWeights s.size vectors s d (λ v. slice_index_or found v (whole (pos 0))))
   inside_answer k found hd due I = (
     ap length I.found_are ∙ length-weights (last_table p k) (length vectors) (firsts p) (whole d) (length vectors),
-    subst (λ (found : List Rational). AreWeights s.size vectors s d (λ v. slice_index_or found v (whole (pos 0)))) (sym I.found_are) (by (is_settled_first p) refl),
+    subst (λ (found : List Rational). AreWeights s.size vectors s d (λ v. slice_index_or found v (whole (pos 0)))) (sym I.found_are)
+        (by (is_settled_first p) refl),
   )
     where
-      by : (b : Bool) → is_settled_first p ≡ b → AreWeights s.size vectors s d (λ v. slice_index_or (weights (last_table p k) (length vectors) (firsts p) (whole d) (length vectors)) v (whole (pos 0)))
+      by : (b : Bool) → is_settled_first p ≡ b
+          → AreWeights s.size vectors s d
+          (λ v. slice_index_or (weights (last_table p k) (length vectors) (firsts p) (whole d) (length vectors)) v (whole (pos 0)))
       by true h =
-          subst (λ (t : Table). AreWeights s.size vectors s d (λ v. slice_index_or (weights t (length vectors) (firsts p) (whole d) (length vectors)) v (whole (pos 0))))
+          subst (λ (t : Table).
+          AreWeights s.size vectors s d (λ v. slice_index_or (weights t (length vectors) (firsts p) (whole d) (length vectors)) v (whole (pos 0))))
           (sym (ap (λ (b : Bool). if b then first_table p else table_after p k) h))
           (settled_right vectors s d some sizes perfect the_basis (firsts p) hd h)
       by false h =
-          subst (λ (t : Table). AreWeights s.size vectors s d (λ v. slice_index_or (weights t (length vectors) (firsts p) (whole d) (length vectors)) v (whole (pos 0))))
+          subst (λ (t : Table).
+          AreWeights s.size vectors s d (λ v. slice_index_or (weights t (length vectors) (firsts p) (whole d) (length vectors)) v (whole (pos 0))))
           (sym (ap (λ (b : Bool). if b then first_table p else table_after p k) h))
-          (inside_right vectors s d some sizes perfect the_basis (table_after p k) (firsts p) (basis_after linear_program open_basis (steps_of p k) k) (coordinates_after linear_program open_coord (steps_of p k) k) hd
+          (inside_right vectors s d some sizes perfect the_basis (table_after p k) (firsts p) (basis_after linear_program open_basis (steps_of p k) k)
+          (coordinates_after linear_program open_coord (steps_of p k) k) hd
           (later_tableau k due) (last_inside p k I.last h))

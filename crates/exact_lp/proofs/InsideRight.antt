@@ -1,8 +1,10 @@
 -- The weights of the answer Inside write S/d.
-use Rattle.std.specs.Prelude.{◌≡◌, ◌≢◌, ℕ, ◌+◌, ◌-◌, ◌<◌, ◌≤◌, ◌⊎◌, ℤ, pos, ◌*ℤ◌, ◌≤ℤ◌, Bool, true, false, not, ◌&&◌, cond, nat_eq, List, [], ◌∷◌, length, slice_index_or, Option, Some, None, if◌then◌else◌}
+use Rattle.std.specs.Prelude.{◌≡◌, ◌≢◌, ℕ, ◌+◌, ◌-◌, ◌<◌, ◌≤◌, ◌⊎◌, ℤ, pos, ◌*ℤ◌, ◌≤ℤ◌, Bool, true, false, not, ◌&&◌, cond, nat_eq, List, [], ◌∷◌, length}
+use Rattle.std.specs.Prelude.{slice_index_or, Option, Some, None, if◌then◌else◌}
 use Rattle.std.proofs.Common.{arith, sym, ◌∙◌, ap, ap₂, refl, subst, inl, inr}
 use Rattle.std.proofs.lemmas.List.FromFn.{get_or-map-range_with_len}
 use Rattle.commutative_ring.proofs.Ring.{num, ◌⊕◌, ◌⊗◌, v0, v1, v2}
+use Rattle.commutative_ring.proofs.SmallCases.{same_of_test, test_of_same, true_or_false}
 use Rattle.exact_forms.specs.Rational.{Rational, whole, inverse, ◌+ℚ◌, ◌*ℚ◌, ◌/ℚ◌}
 use Rattle.exact_forms.specs.Sums.{sum_ℚ}
 use Rattle.exact_forms.specs.Signs.{IsPositive, IsNonnegative}
@@ -14,7 +16,6 @@ use Rattle.exact_forms.proofs.RationalSums.{sum_ℚ_same, mul-sum_ℚ}
 use Rattle.exact_forms.proofs.RankOne.{rank_one_sum_is, rank_one_sum_same}
 use Rattle.exact_forms.proofs.Signs.{positive_nonneg, positive_inverse, nonneg_product, nonneg_zero, whole_positive}
 use Rattle.exact_forms.proofs.Slacks.{replaced_other}
-use Rattle.exact_forms.proofs.Coordinates.{true_or_false}
 use Rattle.symmetric_matrix.specs.Symmetric.{Symmetric, entry}
 use Rattle.exact_linear.proofs.Listed.{contains_at, contained, basic_row, row_basic, sum_listed}
 use Rattle.exact_linear.proofs.FirstTables.{IsFirstTable, first_coordinates}
@@ -37,7 +38,8 @@ nonneg_quotient : (x y : Rational) → IsNonnegative x → IsPositive y → IsNo
 unfolding ◌/ℚ◌
 nonneg_quotient x y n p = nonneg_product x (inverse y.num y.den) n (positive_nonneg _ (positive_inverse y p))
 
-pub weights_at : (t : Table) (m : ℕ) (cs : List ℕ) (d : Rational) (k : ℕ) → k < m → slice_index_or (weights t m cs d m) k (whole (pos 0)) ≡ coefficient t m cs k /ℚ d
+pub weights_at : (t : Table) (m : ℕ) (cs : List ℕ) (d : Rational) (k : ℕ) → k < m
+    → slice_index_or (weights t m cs d m) k (whole (pos 0)) ≡ coefficient t m cs k /ℚ d
 unfolding weights
 weights_at t m cs d k l = get_or-map-range_with_len (λ v. coefficient t m cs v /ℚ d) 0 m k k (whole (pos 0)) l (omega arith)
 
@@ -53,12 +55,16 @@ sum_quotient m d x e =
 pub record AreCoefficients (vectors : List (List ℕ)) (s : Symmetric) (t : Table) (cs : List ℕ) : Type 0 where
   pub nonnegative : (v : ℕ) → v < length vectors → IsNonnegative (coefficient t (length vectors) cs v)
   pub sum : (a b : ℕ) → a < s.size → b < s.size
-      → sum_ℚ (length vectors) (λ v. coefficient t (length vectors) cs v *ℚ whole (coordinate (slice_index_or vectors v []) a *ℤ coordinate (slice_index_or vectors v []) b)) ≡ whole (entry s a b)
+      → sum_ℚ (length vectors)
+      (λ v. coefficient t (length vectors) cs v *ℚ whole (coordinate (slice_index_or vectors v []) a *ℤ coordinate (slice_index_or vectors v []) b))
+      ≡ whole (entry s a b)
 
 pub weights_right : (vectors : List (List ℕ)) (s : Symmetric) (d : ℤ) (t : Table) (cs : List ℕ) → pos 1 ≤ℤ d → AreCoefficients vectors s t cs
     → AreWeights s.size vectors s d (λ k. slice_index_or (weights t (length vectors) cs (whole d) (length vectors)) k (whole (pos 0)))
 weights_right vectors s d t cs hd C = record {
-  nonnegative = λ k l. subst IsNonnegative (sym (weights_at t (length vectors) cs (whole d) k l)) (nonneg_quotient (coefficient t (length vectors) cs k) (whole d) (C.nonnegative k l) (whole_positive d hd));
+  nonnegative =
+      λ k l. subst IsNonnegative (sym (weights_at t (length vectors) cs (whole d) k l))
+      (nonneg_quotient (coefficient t (length vectors) cs k) (whole d) (C.nonnegative k l) (whole_positive d hd));
   sum = record {
     sum = λ a b la lb.
         rank_one_sum_same vectors _ (λ k. coefficient t (length vectors) cs k /ℚ whole d) a b (λ k l. weights_at t (length vectors) cs (whole d) k l)
@@ -69,20 +75,17 @@ weights_right vectors s d t cs hd C = record {
 }
 
 -- ---- the target's entry in the row of a column is its coordinate there
-pub at_target_is : (A : Columns) (B : ℕ → Bool) (coord : ℕ → ℕ → Rational) (t : Table) (m c : ℕ) → IsBasis A B coord → IsShown A B coord (rows_of t) (table_entry t) (basic_at t)
+pub at_target_is : (A : Columns) (B : ℕ → Bool) (coord : ℕ → ℕ → Rational) (t : Table) (m c : ℕ) → IsBasis A B coord
+    → IsShown A B coord (rows_of t) (table_entry t) (basic_at t)
     → target t m < A.count → c < A.count → at_target t m c ≡ coord (target t m) c
 unfolding row_of
 at_target_is A B coord t m c H S lt lc = by (first_place (holds t c) 0 (rows_of t)) refl
   where
-    of_true : (a b : ℕ) → nat_eq a b ≡ true → a ≡ b
-    of_true a b e = grind arith
-
-    held : (a b : ℕ) → a ≡ b → nat_eq a b ≡ true
-    held a b e = grind arith
-
     not_basic : first_place (holds t c) 0 (rows_of t) ≡ None → ((B c ≡ true) ⊎ (B c ≡ false)) → B c ≡ false
     not_basic e (inr f) = f
-    not_basic e (inl b) = let i = S.every c lc b in absurd (let f = first_none (holds t c) 0 (rows_of t) e i.0 (omega arith) (let l = i.1 in omega arith) in let g = held (basic_at t i.0) c i.2 in cc)
+    not_basic e (inl b) = let i = S.every c lc b in
+        absurd (let f = first_none (holds t c) 0 (rows_of t) e i.0 (omega arith) (let l = i.1 in omega arith) in let g = test_of_same (basic_at t i.0) c i.2 in
+        cc)
 
     by : (o : Option ℕ) → first_place (holds t c) 0 (rows_of t) ≡ o → at_target t m c ≡ coord (target t m) c
     by None e =
@@ -91,10 +94,11 @@ at_target_is A B coord t m c H S lt lc = by (first_place (holds t c) 0 (rows_of 
     by (Some i) e =
         let f = first_found (holds t c) 0 (rows_of t) i e in
         ap (λ (o : Option ℕ). elim o as (λ _. Rational) [ None ↦ whole (pos 0) | Some i ↦ table_entry t i (target t m) ]) e
-        ∙ S.entry i (target t m) (let b = f.below in omega arith) lt ∙ ap (coord (target t m)) (of_true (basic_at t i) c f.passes)
+        ∙ S.entry i (target t m) (let b = f.below in omega arith) lt ∙ ap (coord (target t m)) (same_of_test (basic_at t i) c f.passes)
 
 -- ---- the coefficients of a table
-pub coefficient_raised : (t : Table) (m : ℕ) (cs : List ℕ) (v : ℕ) → is_raised t m cs v ≡ true → coefficient t m cs v ≡ at_target t m (rows_of t + v) +ℚ at_target t m (top t m)
+pub coefficient_raised : (t : Table) (m : ℕ) (cs : List ℕ) (v : ℕ) → is_raised t m cs v ≡ true
+    → coefficient t m cs v ≡ at_target t m (rows_of t + v) +ℚ at_target t m (top t m)
 unfolding coefficient
 coefficient_raised t m cs v h = ap (λ (b : Bool). if b then at_target t m (rows_of t + v) +ℚ at_target t m (top t m) else at_target t m (rows_of t + v)) h
 
@@ -102,11 +106,13 @@ pub coefficient_plain : (t : Table) (m : ℕ) (cs : List ℕ) (v : ℕ) → is_r
 unfolding coefficient
 coefficient_plain t m cs v h = ap (λ (b : Bool). if b then at_target t m (rows_of t + v) +ℚ at_target t m (top t m) else at_target t m (rows_of t + v)) h
 
-module _ (P : Program) (t : Table) (m : ℕ) (cs : List ℕ) (B : ℕ → Bool) (coord start : ℕ → ℕ → Rational) (T : IsTableau P t m cs B coord) (R : IsProgram P start) where
+module _ (P : Program) (t : Table) (m : ℕ) (cs : List ℕ) (B : ℕ → Bool) (coord start : ℕ → ℕ
+    → Rational) (T : IsTableau P t m cs B coord) (R : IsProgram P start) where
   listed : (v : ℕ) → v < m → contains cs (rows_of t + v) ≡ P.chosen (P.low + v)
   listed v l = by (true_or_false (contains cs (rows_of t + v))) (true_or_false (P.chosen (P.low + v)))
     where
-      by : ((contains cs (rows_of t + v) ≡ true) ⊎ (contains cs (rows_of t + v) ≡ false)) → ((P.chosen (P.low + v) ≡ true) ⊎ (P.chosen (P.low + v) ≡ false)) → contains cs (rows_of t + v) ≡ P.chosen (P.low + v)
+      by : ((contains cs (rows_of t + v) ≡ true) ⊎ (contains cs (rows_of t + v) ≡ false)) → ((P.chosen (P.low + v) ≡ true) ⊎ (P.chosen (P.low + v) ≡ false))
+          → contains cs (rows_of t + v) ≡ P.chosen (P.low + v)
       by (inl a) (inl b) = a ∙ sym b
       by (inr a) (inr b) = a ∙ sym b
       by (inl a) (inr b) =
@@ -117,7 +123,8 @@ module _ (P : Program) (t : Table) (m : ℕ) (cs : List ℕ) (B : ℕ → Bool) 
       by (inr a) (inl b) =
           let j = R.chosen_is_first (P.low + v) (vector_within P t m cs B coord T (P.low + v) (let h = T.high in let z = T.low in omega arith)) b in
           let e : slice_index_or cs j.0 0 ≡ rows_of t + v = T.ranks j.0 j.1 ∙ j.2 ∙ ap (λ (r : ℕ). r + v) T.low in
-          absurd (let c = contains_at cs j.0 (let r = T.rank in let x = j.1 in omega arith) in let g : contains cs (slice_index_or cs j.0 0) ≡ contains cs (rows_of t + v) = ap (contains cs) e in cc)
+          absurd (let c = contains_at cs j.0 (let r = T.rank in let x = j.1 in omega arith) in
+          let g : contains cs (slice_index_or cs j.0 0) ≡ contains cs (rows_of t + v) = ap (contains cs) e in cc)
 
   top_basic : is_basic t (top t m) ≡ true
   top_basic = let i = T.shown.every P.top (top_within P t m cs B coord T) T.state.has_top in row_basic t (top t m) i.0 i.1 (i.2 ∙ T.top_is)
@@ -145,16 +152,20 @@ module _ (P : Program) (t : Table) (m : ℕ) (cs : List ℕ) (B : ℕ → Bool) 
           ap (λ (r : ℕ). at_target t m (r + v)) (sym T.low) ∙ at_target_of (P.low + v) within
           ∙ sym (replaced_other (coord P.target) P.top (whole (pos 0)) (P.low + v) apart)
 
-      by : ((P.chosen (P.low + v) ≡ true) ⊎ (P.chosen (P.low + v) ≡ false)) → coefficient t m cs v ≡ cond (nat_eq (P.low + v) P.top) (whole (pos 0)) (coord P.target (P.low + v)) +ℚ cond (P.chosen (P.low + v)) (coord P.target P.top) (whole (pos 0))
+      by : ((P.chosen (P.low + v) ≡ true) ⊎ (P.chosen (P.low + v) ≡ false))
+          → coefficient t m cs v
+          ≡ cond (nat_eq (P.low + v) P.top) (whole (pos 0)) (coord P.target (P.low + v)) +ℚ cond (P.chosen (P.low + v)) (coord P.target P.top) (whole (pos 0))
       by (inl c) =
           coefficient_raised t m cs v (raised_is v l ∙ c)
           ∙ ap₂ (λ x y. x +ℚ y) at_vector
-          (ap (at_target t m) (sym T.top_is) ∙ at_target_of P.top (top_within P t m cs B coord T) ∙ sym (ap (λ (b : Bool). cond b (coord P.target P.top) (whole (pos 0))) c))
+          (ap (at_target t m) (sym T.top_is) ∙ at_target_of P.top (top_within P t m cs B coord T)
+          ∙ sym (ap (λ (b : Bool). cond b (coord P.target P.top) (whole (pos 0))) c))
       by (inr c) =
           coefficient_plain t m cs v (raised_is v l ∙ c)
           ∙ at_vector
           ∙ ring_ℚ (cond (nat_eq (P.low + v) P.top) (whole (pos 0)) (coord P.target (P.low + v)) ∷ []) v0 (v0 ⊕ num (pos 0)) refl
-          ∙ ap (λ w. cond (nat_eq (P.low + v) P.top) (whole (pos 0)) (coord P.target (P.low + v)) +ℚ w) (sym (ap (λ (b : Bool). cond b (coord P.target P.top) (whole (pos 0))) c))
+          ∙ ap (λ w. cond (nat_eq (P.low + v) P.top) (whole (pos 0)) (coord P.target (P.low + v)) +ℚ w)
+          (sym (ap (λ (b : Bool). cond b (coord P.target P.top) (whole (pos 0))) c))
 
 -- ---- no negative entry of the target
 pub settled_nonneg : (t : Table) (m : ℕ) → is_settled t m ≡ true → (i : ℕ) → i < rows_of t → IsNonnegative (table_entry t i (target t m))
@@ -180,13 +191,15 @@ sum_of_vectors count low m w e h off =
     by k l (inr n) = inr (ap (λ x. x *ℚ e k) (off k l n) ∙ zero_mul_ℚ (e k))
 
 -- ---- the answer
-module _ (vectors : List (List ℕ)) (s : Symmetric) (d : ℤ) (some : 1 ≤ s.size) (sizes : (k : ℕ) → k < length vectors → length (slice_index_or vectors k []) ≡ s.size) (perfect : IsPerfect s.size vectors)
+module _ (vectors : List (List ℕ)) (s : Symmetric) (d : ℤ) (some : 1 ≤ s.size) (sizes : (k : ℕ) → k < length vectors
+    → length (slice_index_or vectors k []) ≡ s.size) (perfect : IsPerfect s.size vectors)
     (F : IsFirstTable (start_columns vectors s) (low_of s) (low_of s + length vectors) (first_table (problem_of vectors s d))) where
   abbrev P : Program
   P = the_program vectors s d some sizes perfect F
 
   -- from coefficients of the columns
-  from_columns : (w : ℕ → Rational) (t : Table) (cs : List ℕ) → ((v : ℕ) → v < length vectors → coefficient t (length vectors) cs v ≡ w (low_of s + v)) → IsFactored P w → AreCoefficients vectors s t cs
+  from_columns : (w : ℕ → Rational) (t : Table) (cs : List ℕ) → ((v : ℕ) → v < length vectors → coefficient t (length vectors) cs v ≡ w (low_of s + v))
+      → IsFactored P w → AreCoefficients vectors s t cs
   from_columns w t cs same W = record {
     nonnegative = λ v l. subst IsNonnegative (sym (same v l)) (W.nonnegative (low_of s + v) (let c = count_is vectors s in omega arith));
     sum = λ a b la lb.
@@ -197,12 +210,16 @@ module _ (vectors : List (List ℕ)) (s : Symmetric) (d : ℤ) (some : 1 ≤ s.s
   }
 
   -- after any number of steps
-  pub inside_right : (t : Table) (cs : List ℕ) (B : ℕ → Bool) (coord : ℕ → ℕ → Rational) → pos 1 ≤ℤ d → IsTableau P t (length vectors) cs B coord → is_inside t (length vectors) ≡ true
+  pub inside_right : (t : Table) (cs : List ℕ) (B : ℕ → Bool) (coord : ℕ → ℕ → Rational) → pos 1 ≤ℤ d → IsTableau P t (length vectors) cs B coord
+      → is_inside t (length vectors) ≡ true
       → AreWeights s.size vectors s d (λ k. slice_index_or (weights t (length vectors) cs (whole d) (length vectors)) k (whole (pos 0)))
   inside_right t cs B coord hd T h =
       weights_right vectors s d t cs hd
-      (from_columns (weight P coord) t cs (λ v l. coefficient_is P t (length vectors) cs B coord (first_coord vectors s d some sizes perfect F) T (is_program vectors s d some sizes perfect F) v l)
-      (inside_factors P (first_coord vectors s d some sizes perfect F) (is_program vectors s d some sizes perfect F) B coord T.state (inside_fact P t (length vectors) cs B coord T h)))
+      (from_columns (weight P coord) t cs
+      (λ v l. coefficient_is P t (length vectors) cs B coord (first_coord vectors s d some sizes perfect F) T
+      (is_program vectors s d some sizes perfect F) v l)
+      (inside_factors P (first_coord vectors s d some sizes perfect F) (is_program vectors s d some sizes perfect F) B coord T.state
+      (inside_fact P t (length vectors) cs B coord T h)))
 
   -- ---- where the first basis settles it
   abbrev f : Table
@@ -240,15 +257,18 @@ module _ (vectors : List (List ℕ)) (s : Symmetric) (d : ℤ) (some : 1 ≤ s.s
       by (inr n) = n
       by (inl b) =
           let i = basic_row f (top f (length vectors)) b in
-          absurd ((first_free vectors s d some sizes perfect F).free i.0 i.1 (let e = i.2 in let w = F.width in let r = F.rows in let c = count_is vectors s in omega arith))
+          absurd ((first_free vectors s d some sizes perfect F).free i.0 i.1 (let e = i.2 in let w = F.width in let r = F.rows in let c = count_is vectors s in
+          omega arith))
 
   pub settled_coefficient : (cs : List ℕ) (v : ℕ) → v < length vectors → coefficient f (length vectors) cs v ≡ start P.target (low_of s + v)
   settled_coefficient cs v l =
       coefficient_plain f (length vectors) cs v (not_raised cs v)
       ∙ ap (λ (r : ℕ). at_target f (length vectors) (r + v)) F.rows
-      ∙ at_target_is (start_columns vectors s) F.basis F.coord f (length vectors) (low_of s + v) F.first.basis F.shown (let r = F.rows in let c = count_is vectors s in omega arith) (let c = count_is vectors s in omega arith)
+      ∙ at_target_is (start_columns vectors s) F.basis F.coord f (length vectors) (low_of s + v) F.first.basis F.shown (let r = F.rows in
+      let c = count_is vectors s in omega arith) (let c = count_is vectors s in omega arith)
       ∙ ap (λ (r : ℕ). F.coord (r + length vectors) (low_of s + v)) F.rows
-      ∙ sym (coord_other (start_columns vectors s) f (first_coordinates (start_columns vectors s) (low_of s) (low_of s + length vectors) f F) (first_free vectors s d some sizes perfect F) P.target (low_of s + v) (let c = count_is vectors s in omega arith))
+      ∙ sym (coord_other (start_columns vectors s) f (first_coordinates (start_columns vectors s) (low_of s) (low_of s + length vectors) f F)
+      (first_free vectors s d some sizes perfect F) P.target (low_of s + v) (let c = count_is vectors s in omega arith))
 
   pub settled_right : (cs : List ℕ) → pos 1 ≤ℤ d → is_settled f (length vectors) ≡ true
       → AreWeights s.size vectors s d (λ k. slice_index_or (weights f (length vectors) cs (whole d) (length vectors)) k (whole (pos 0)))

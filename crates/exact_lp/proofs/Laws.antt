@@ -2,6 +2,7 @@
 use Rattle.std.specs.Prelude.{◌≡◌, ℕ, ◌+◌, ◌<◌, ◌⊎◌, ℤ, pos, true, not, List, [], ◌∷◌, length, Option, Some, None}
 use Rattle.std.proofs.Common.{arith, sym, ◌∙◌, ap, refl, subst, inl, inr}
 use Rattle.commutative_ring.proofs.Ring.{num, ◌⊕◌, neg, v0, v1}
+use Rattle.commutative_ring.proofs.SmallCases.{three_ways}
 use Rattle.exact_forms.specs.Rational.{Rational, ◌+ℚ◌, neg_ℚ}
 use Rattle.exact_forms.specs.Signs.{IsPositive, IsNonnegative}
 use Rattle.exact_forms.proofs.Rational.{ring_ℚ}
@@ -24,11 +25,8 @@ use Rattle.exact_lp.proofs.RunFront.{front_is_run}
 
 -- ---- two runs
 least_once : (P : Program) (coord : ℕ → ℕ → Rational) (i j : ℕ) → IsLeastPlace P coord i → IsLeastPlace P coord j → i ≡ j
-least_once P coord i j A B = by (three i j)
+least_once P coord i j A B = by (three_ways i j)
   where
-    three : (i j : ℕ) → (i < j) ⊎ ((i ≡ j) ⊎ (j < i))
-    three i j = grind arith
-
     not_both : (x y : Rational) → IsPositive (x +ℚ neg_ℚ y) → IsNonnegative (y +ℚ neg_ℚ x) → ⊥
     not_both x y p n =
         zero_not_positive

@@ -3,17 +3,19 @@ use Rattle.std.specs.Prelude.{◌≡◌, ◌≢◌, ℕ, zero, suc, ◌<◌, ◌
 use Rattle.std.proofs.Common.{arith, sym, ◌∙◌, ap, refl, subst, inl, inr}
 use Rattle.exact_forms.proofs.RationalSums.{sum_ℚ_same, mul-sum_ℚ}
 use Rattle.commutative_ring.proofs.Ring.{num, ◌⊕◌, ◌⊗◌, neg, v0, v1, v2}
+use Rattle.commutative_ring.proofs.SmallCases.{below_or_not, last_or_before, same_or_not, true_or_false}
 use Rattle.exact_forms.specs.Rational.{Rational, whole, neg_ℚ, ◌+ℚ◌, ◌*ℚ◌, ◌/ℚ◌}
 use Rattle.exact_forms.specs.Sums.{sum_ℚ}
 use Rattle.exact_forms.proofs.Rational.{one_mul_ℚ, zero_mul_ℚ}
-use Rattle.exact_forms.proofs.Slacks.{replaced_here, same_or_not}
+use Rattle.exact_forms.proofs.Slacks.{replaced_here}
 use Rattle.exact_forms.proofs.Rational.{ring_ℚ, div-mul}
 use Rattle.exact_forms.specs.Signs.{IsNonnegative}
 use Rattle.exact_forms.specs.Lexicographic.{IsLexBelow}
 use Rattle.exact_lp.specs.Program.{Program, IsProgram, IsEntering, MayLeave, IsLeaving, IsState, ratios, IsNonnegativeProgram}
-use Rattle.exact_forms.proofs.Signs.{Sign, above, none, below, sign_of, positive_not_zero, positive_nonneg, nonneg_product, nonneg_zero, not_both, total_nonneg, negative_opposite, negative_not_nonneg}
+use Rattle.exact_forms.proofs.Signs.{Sign, above, none, below, sign_of, positive_not_zero, positive_nonneg, nonneg_product, nonneg_zero, not_both, total_nonneg}
+use Rattle.exact_forms.proofs.Signs.{negative_opposite, negative_not_nonneg}
 use Rattle.exact_forms.proofs.Lexicographic.{LexSign, lex_above, lex_none, lex_below_zero, lex_sign, lex_same, lex_below, lex_difference, lex_add, lex_not_both}
-use Rattle.exact_forms.proofs.Coordinates.{mark_off, basis_mark, read_off, coordinates_same, true_or_false}
+use Rattle.exact_forms.proofs.Coordinates.{mark_off, basis_mark, read_off, coordinates_same}
 use Rattle.exact_lp.specs.Theorems.{IsOnlyLeaving, LeavingIsUnique, EnteringHasLeaving}
 use Rattle.exact_lp.proofs.Outcome.{order_suc}
 
@@ -23,7 +25,9 @@ lex_cases n f g = by (lex_sign n (λ k. g k +ℚ neg_ℚ (f k)))
   where
     by : LexSign n (λ k. g k +ℚ neg_ℚ (f k)) → (IsLexBelow n f g) ⊎ (((k : ℕ) → k < n → f k ≡ g k) ⊎ (IsLexBelow n g f))
     by (lex_above p) = inl (lex_below n f g p)
-    by (lex_none h) = inr (inl (λ k l. ring_ℚ (f k ∷ []) v0 (num (pos 0) ⊕ v0) refl ∙ ap (λ x. x +ℚ f k) (sym (h k l)) ∙ ring_ℚ (g k ∷ f k ∷ []) ((v0 ⊕ neg v1) ⊕ v1) v0 refl))
+    by (lex_none h) =
+        inr (inl (λ k l. ring_ℚ (f k ∷ []) v0 (num (pos 0) ⊕ v0) refl ∙ ap (λ x. x +ℚ f k) (sym (h k l))
+        ∙ ring_ℚ (g k ∷ f k ∷ []) ((v0 ⊕ neg v1) ⊕ v1) v0 refl))
     by (lex_below_zero p) = inr (inr (lex_below n g f (lex_same n _ _ (λ k l. ring_ℚ (f k ∷ g k ∷ []) (neg (v1 ⊕ neg v0)) (v0 ⊕ neg v1) refl) p)))
 
 pub lex_transitive : (n : ℕ) (f g h : ℕ → Rational) → IsLexBelow n f g → IsLexBelow n g h → IsLexBelow n f h
@@ -49,9 +53,6 @@ pub search_below : (D N : ℕ → Type 0) → ((k : ℕ) → (D k) ⊎ (N k)) �
 search_below D N test zero = inr (λ k l. absurd (omega arith))
 search_below D N test (suc n) = by (search_below D N test n) (test n)
   where
-    last_or_before : (i n : ℕ) → i < suc n → (i ≡ n) ⊎ (i < n)
-    last_or_before i n l = grind arith
-
     at_last : ((k : ℕ) → k < n → N k) → N n → (k : ℕ) → ((k ≡ n) ⊎ (k < n)) → N k
     at_last h e k (inl s) = subst N (sym s) e
     at_last h e k (inr l) = h k l
@@ -79,7 +80,8 @@ module _ (P : Program) (B : ℕ → Bool) (coord start : ℕ → ℕ → Rationa
       sums m lm = read_off P.columns B coord (start k) (coord k) (P.columns.entry k) H.basis (H.basis.written k K.within) (R.basis.written k K.within).sum m lm
 
       at_k : sum_ℚ P.columns.count (λ i. start k i *ℚ coord i k) ≡ whole (pos 1)
-      at_k = sym (sums k K.within) ∙ basis_mark P.columns B coord H.basis k K.within K.basic k K.within ∙ replaced_here (λ k. whole (pos 0)) k (whole (pos 1)) k refl
+      at_k = sym (sums k K.within) ∙ basis_mark P.columns B coord H.basis k K.within K.basic k K.within
+          ∙ replaced_here (λ k. whole (pos 0)) k (whole (pos 1)) k refl
 
       at_l : sum_ℚ P.columns.count (λ i. start k i *ℚ coord i l) ≡ whole (pos 0)
       at_l = sym (sums l L.within) ∙ basis_mark P.columns B coord H.basis k K.within K.basic l L.within ∙ mark_off P.columns k l (λ (s : l ≡ k). ne (sym s))
@@ -93,11 +95,13 @@ module _ (P : Program) (B : ℕ → Bool) (coord start : ℕ → ℕ → Rationa
       crossed : (j : ℕ) → j < P.rank → coord (P.first j) k *ℚ coord e l ≡ coord (P.first j) l *ℚ coord e k
       crossed j lj =
           ap (λ w. w *ℚ coord e l) (sym (div-mul (coord (P.first j) k) (coord e k) (positive_not_zero (coord e k) K.positive)))
-          ∙ ap (λ w. w *ℚ coord e k *ℚ coord e l) (ap (λ (c : ℕ). coord c k /ℚ coord e k) (sym (order_suc P j)) ∙ same (suc j) (omega arith) ∙ ap (λ (c : ℕ). coord c l /ℚ coord e l) (order_suc P j))
+          ∙ ap (λ w. w *ℚ coord e k *ℚ coord e l) (ap (λ (c : ℕ). coord c k /ℚ coord e k) (sym (order_suc P j)) ∙ same (suc j) (omega arith)
+          ∙ ap (λ (c : ℕ). coord c l /ℚ coord e l) (order_suc P j))
           ∙ ring_ℚ ((coord (P.first j) l /ℚ coord e l) ∷ coord e k ∷ coord e l ∷ []) (v0 ⊗ v1 ⊗ v2) (v0 ⊗ v2 ⊗ v1) refl
           ∙ ap (λ w. w *ℚ coord e k) (div-mul (coord (P.first j) l) (coord e l) (positive_not_zero (coord e l) L.positive))
 
-      each : (i : ℕ) → i < P.columns.count → ((P.chosen i ≡ true) ⊎ (P.chosen i ≡ false)) → start k i *ℚ (coord i k *ℚ coord e l) ≡ start k i *ℚ (coord i l *ℚ coord e k)
+      each : (i : ℕ) → i < P.columns.count → ((P.chosen i ≡ true) ⊎ (P.chosen i ≡ false))
+          → start k i *ℚ (coord i k *ℚ coord e l) ≡ start k i *ℚ (coord i l *ℚ coord e k)
       each i li (inl t) =
           let f = R.chosen_is_first i li t in
           ap (λ w. start k i *ℚ w) (subst (λ (i : ℕ). coord i k *ℚ coord e l ≡ coord i l *ℚ coord e k) f.2 (crossed f.0 f.1))
@@ -106,11 +110,8 @@ module _ (P : Program) (B : ℕ → Bool) (coord start : ℕ → ℕ → Rationa
           ap (λ w. w *ℚ (coord i k *ℚ coord e l)) z ∙ zero_mul_ℚ _ ∙ sym (ap (λ w. w *ℚ (coord i l *ℚ coord e k)) z ∙ zero_mul_ℚ _)
 
   pub candidate_or_not : (e k : ℕ) → (MayLeave P B coord e k) ⊎ (k < P.columns.count → B k ≡ true → k ≢ P.top → IsNonnegative (neg_ℚ (coord e k)))
-  candidate_or_not e k = by (within k P.columns.count) (true_or_false (B k)) (same_or_not k P.top) (sign_of (coord e k))
+  candidate_or_not e k = by (below_or_not k P.columns.count) (true_or_false (B k)) (same_or_not k P.top) (sign_of (coord e k))
     where
-      within : (k n : ℕ) → (k < n) ⊎ (n ≤ k)
-      within k n = grind arith
-
       by : ((k < P.columns.count) ⊎ (P.columns.count ≤ k)) → ((B k ≡ true) ⊎ (B k ≡ false)) → ((k ≡ P.top) ⊎ (k ≢ P.top)) → Sign (coord e k)
           → (MayLeave P B coord e k) ⊎ (k < P.columns.count → B k ≡ true → k ≢ P.top → IsNonnegative (neg_ℚ (coord e k)))
       by (inr o) b t s = inr (λ l u v. absurd (omega arith))
@@ -123,56 +124,66 @@ module _ (P : Program) (B : ℕ → Bool) (coord start : ℕ → ℕ → Rationa
   -- an entering column has a candidate
   pub has_candidate : (e : ℕ) → IsNonnegativeProgram P → IsEntering P coord e → (k : ℕ) × (k < P.columns.count) × (MayLeave P B coord e k)
   has_candidate e N E =
-      by (search_below (MayLeave P B coord e) (λ k. k < P.columns.count → B k ≡ true → k ≢ P.top → IsNonnegative (neg_ℚ (coord e k))) (candidate_or_not e) P.columns.count)
+      by (search_below (MayLeave P B coord e) (λ k. k < P.columns.count → B k ≡ true → k ≢ P.top
+      → IsNonnegative (neg_ℚ (coord e k))) (candidate_or_not e) P.columns.count)
     where
       le : e < P.columns.count
       le = let a = R.vectors in let b = E.high in omega arith
 
-      term : ((k : ℕ) → k < P.columns.count → k < P.columns.count → B k ≡ true → k ≢ P.top → IsNonnegative (neg_ℚ (coord e k))) → (k a b : ℕ) → a < P.columns.size → b < P.columns.size → k < P.columns.count
+      term : ((k : ℕ) → k < P.columns.count → k < P.columns.count → B k ≡ true → k ≢ P.top → IsNonnegative (neg_ℚ (coord e k))) → (k a b : ℕ)
+          → a < P.columns.size → b < P.columns.size → k < P.columns.count
           → ((B k ≡ true) ⊎ (B k ≡ false)) → ((k ≡ P.top) ⊎ (k ≢ P.top)) → IsNonnegative (neg_ℚ (coord e k) *ℚ P.columns.entry k a b)
-      term h k a b la lb l (inr f) t = nonneg_zero _ (ap (λ w. neg_ℚ w *ℚ P.columns.entry k a b) ((H.basis.written e le).outside k l f) ∙ ring_ℚ (P.columns.entry k a b ∷ []) (neg (num (pos 0)) ⊗ v0) (num (pos 0)) refl)
-      term h k a b la lb l (inl i) (inl s) = subst (λ (k : ℕ). IsNonnegative (neg_ℚ (coord e k) *ℚ P.columns.entry k a b)) (sym s) (nonneg_product _ _ (positive_nonneg _ ((negative_opposite _).0 E.negative)) (N.top a b la lb))
+      term h k a b la lb l (inr f) t =
+          nonneg_zero _ (ap (λ w. neg_ℚ w *ℚ P.columns.entry k a b) ((H.basis.written e le).outside k l f)
+          ∙ ring_ℚ (P.columns.entry k a b ∷ []) (neg (num (pos 0)) ⊗ v0) (num (pos 0)) refl)
+      term h k a b la lb l (inl i) (inl s) =
+          subst (λ (k : ℕ). IsNonnegative (neg_ℚ (coord e k) *ℚ P.columns.entry k a b)) (sym s)
+          (nonneg_product _ _ (positive_nonneg _ ((negative_opposite _).0 E.negative)) (N.top a b la lb))
       term h k a b la lb l (inl i) (inr n) = let v = H.vectors k l i n in nonneg_product _ _ (h k l l i n) (N.vectors k a b la lb v.0 v.1)
 
-      below_zero : ((k : ℕ) → k < P.columns.count → k < P.columns.count → B k ≡ true → k ≢ P.top → IsNonnegative (neg_ℚ (coord e k))) → (a b : ℕ) → a < P.columns.size → b < P.columns.size → IsNonnegative (neg_ℚ (P.columns.entry e a b))
+      below_zero : ((k : ℕ) → k < P.columns.count → k < P.columns.count → B k ≡ true → k ≢ P.top → IsNonnegative (neg_ℚ (coord e k))) → (a b : ℕ)
+          → a < P.columns.size → b < P.columns.size → IsNonnegative (neg_ℚ (P.columns.entry e a b))
       below_zero h a b la lb =
           subst IsNonnegative
           (sum_ℚ_same P.columns.count _ _ (λ k l. ring_ℚ (coord e k ∷ P.columns.entry k a b ∷ []) (neg v0 ⊗ v1) (num (negsuc 0) ⊗ (v0 ⊗ v1)) refl)
           ∙ sym (mul-sum_ℚ (whole (negsuc 0)) P.columns.count (λ k. coord e k *ℚ P.columns.entry k a b))
           ∙ ap (λ w. whole (negsuc 0) *ℚ w) ((H.basis.written e le).sum a b la lb)
           ∙ ring_ℚ (P.columns.entry e a b ∷ []) (num (negsuc 0) ⊗ v0) (neg v0) refl)
-          (total_nonneg P.columns.count (λ k. neg_ℚ (coord e k) *ℚ P.columns.entry k a b) (λ k l. term h k a b la lb l (true_or_false (B k)) (same_or_not k P.top)))
+          (total_nonneg P.columns.count (λ k. neg_ℚ (coord e k) *ℚ P.columns.entry k a b)
+          (λ k l. term h k a b la lb l (true_or_false (B k)) (same_or_not k P.top)))
 
       zero_both : (x : Rational) → IsNonnegative x → IsNonnegative (neg_ℚ x) → Sign x → x ≡ whole (pos 0)
       zero_both x a b (above s) = absurd (not_both x s b)
       zero_both x a b (none z) = z
       zero_both x a b (below s) = absurd (not_both (neg_ℚ x) s (subst IsNonnegative (ring_ℚ (x ∷ []) v0 (neg (neg v0)) refl) a))
 
-      by : (((k : ℕ) × (k < P.columns.count) × (MayLeave P B coord e k)) ⊎ ((k : ℕ) → k < P.columns.count → k < P.columns.count → B k ≡ true → k ≢ P.top → IsNonnegative (neg_ℚ (coord e k))))
+      by : (((k : ℕ) × (k < P.columns.count) × (MayLeave P B coord e k))
+          ⊎ ((k : ℕ) → k < P.columns.count → k < P.columns.count → B k ≡ true → k ≢ P.top → IsNonnegative (neg_ℚ (coord e k))))
           → (k : ℕ) × (k < P.columns.count) × (MayLeave P B coord e k)
       by (inl f) = f
       by (inr h) =
           absurd (negative_not_nonneg (coord e P.top) E.negative (nonneg_zero _ (H.basis.independent.only_zero (coord e)
           (coordinates_same P.columns B (coord e) (P.columns.entry e) (λ a b. whole (pos 0))
-          (λ a b la lb. zero_both (P.columns.entry e a b) (N.vectors e a b la lb E.low E.high) (below_zero h a b la lb) (sign_of (P.columns.entry e a b))) (H.basis.written e le)) P.top R.top_within)))
+          (λ a b la lb. zero_both (P.columns.entry e a b) (N.vectors e a b la lb E.low E.high) (below_zero h a b la lb) (sign_of (P.columns.entry e a b)))
+          (H.basis.written e le)) P.top R.top_within)))
 
   -- the best of the candidates below n
   best_below : (e : ℕ) → (n : ℕ) → n ≤ P.columns.count
-      → ((l : ℕ) × (MayLeave P B coord e l) × ((k : ℕ) → k < n → MayLeave P B coord e k → k ≢ l → IsLexBelow (suc P.rank) (ratios P coord e l) (ratios P coord e k)))
+      → ((l : ℕ) × (MayLeave P B coord e l)
+      × ((k : ℕ) → k < n → MayLeave P B coord e k → k ≢ l → IsLexBelow (suc P.rank) (ratios P coord e l) (ratios P coord e k)))
       ⊎ ((k : ℕ) → k < n → MayLeave P B coord e k → ⊥)
   best_below e zero h = inr (λ k l c. absurd (omega arith))
   best_below e (suc n) h = by (best_below e n (omega arith)) (candidate_or_not e n)
     where
-      last_or_before : (i n : ℕ) → i < suc n → (i ≡ n) ⊎ (i < n)
-      last_or_before i n l = grind arith
-
       not_candidate : (k : ℕ) → MayLeave P B coord e k → (k < P.columns.count → B k ≡ true → k ≢ P.top → IsNonnegative (neg_ℚ (coord e k))) → ⊥
       not_candidate k c o = not_both (coord e k) c.positive (o c.within c.basic c.other)
 
-      by : (((l : ℕ) × (MayLeave P B coord e l) × ((k : ℕ) → k < n → MayLeave P B coord e k → k ≢ l → IsLexBelow (suc P.rank) (ratios P coord e l) (ratios P coord e k)))
+      by : (((l : ℕ) × (MayLeave P B coord e l)
+          × ((k : ℕ) → k < n → MayLeave P B coord e k → k ≢ l → IsLexBelow (suc P.rank) (ratios P coord e l) (ratios P coord e k)))
           ⊎ ((k : ℕ) → k < n → MayLeave P B coord e k → ⊥))
           → ((MayLeave P B coord e n) ⊎ (n < P.columns.count → B n ≡ true → n ≢ P.top → IsNonnegative (neg_ℚ (coord e n))))
-          → ((l : ℕ) × (MayLeave P B coord e l) × ((k : ℕ) → k < suc n → MayLeave P B coord e k → k ≢ l → IsLexBelow (suc P.rank) (ratios P coord e l) (ratios P coord e k)))
+          → ((l : ℕ) × (MayLeave P B coord e l)
+          × ((k : ℕ) → k < suc n → MayLeave P B coord e k → k ≢ l → IsLexBelow (suc P.rank) (ratios P coord e l) (ratios P coord e k)))
           ⊎ ((k : ℕ) → k < suc n → MayLeave P B coord e k → ⊥)
       by (inl b) (inr o) = inl (b.0, b.1, λ k lk c ne. old k c ne (last_or_before k n lk))
         where
@@ -181,21 +192,28 @@ module _ (P : Program) (B : ℕ → Bool) (coord start : ℕ → ℕ → Rationa
           old k c ne (inr l) = b.2 k l c ne
       by (inl b) (inl c) = choose (same_or_not b.0 n) (lex_cases (suc P.rank) (ratios P coord e b.0) (ratios P coord e n))
         where
-          kept : IsLexBelow (suc P.rank) (ratios P coord e b.0) (ratios P coord e n) → (k : ℕ) → MayLeave P B coord e k → k ≢ b.0 → ((k ≡ n) ⊎ (k < n)) → IsLexBelow (suc P.rank) (ratios P coord e b.0) (ratios P coord e k)
+          kept : IsLexBelow (suc P.rank) (ratios P coord e b.0) (ratios P coord e n) → (k : ℕ) → MayLeave P B coord e k → k ≢ b.0 → ((k ≡ n) ⊎ (k < n))
+              → IsLexBelow (suc P.rank) (ratios P coord e b.0) (ratios P coord e k)
           kept w k d ne (inl s) = subst (λ (k : ℕ). IsLexBelow (suc P.rank) (ratios P coord e b.0) (ratios P coord e k)) (sym s) w
           kept w k d ne (inr l) = b.2 k l d ne
 
-          new : IsLexBelow (suc P.rank) (ratios P coord e n) (ratios P coord e b.0) → (k : ℕ) → MayLeave P B coord e k → k ≢ n → ((k ≡ n) ⊎ (k < n)) → ((k ≡ b.0) ⊎ (k ≢ b.0)) → IsLexBelow (suc P.rank) (ratios P coord e n) (ratios P coord e k)
+          new : IsLexBelow (suc P.rank) (ratios P coord e n) (ratios P coord e b.0) → (k : ℕ) → MayLeave P B coord e k → k ≢ n → ((k ≡ n) ⊎ (k < n))
+              → ((k ≡ b.0) ⊎ (k ≢ b.0)) → IsLexBelow (suc P.rank) (ratios P coord e n) (ratios P coord e k)
           new w k d ne (inl s) t = absurd (ne s)
           new w k d ne (inr l) (inl t) = subst (λ (k : ℕ). IsLexBelow (suc P.rank) (ratios P coord e n) (ratios P coord e k)) (sym t) w
           new w k d ne (inr l) (inr t) = lex_transitive (suc P.rank) _ _ _ w (b.2 k l d t)
 
-          same_as : (b.0 ≡ n) → (k : ℕ) → MayLeave P B coord e k → k ≢ b.0 → ((k ≡ n) ⊎ (k < n)) → IsLexBelow (suc P.rank) (ratios P coord e b.0) (ratios P coord e k)
+          same_as : (b.0 ≡ n) → (k : ℕ) → MayLeave P B coord e k → k ≢ b.0 → ((k ≡ n) ⊎ (k < n))
+              → IsLexBelow (suc P.rank) (ratios P coord e b.0) (ratios P coord e k)
           same_as s k d ne (inl t) = absurd (ne (t ∙ sym s))
           same_as s k d ne (inr l) = b.2 k l d ne
 
-          choose : ((b.0 ≡ n) ⊎ (b.0 ≢ n)) → ((IsLexBelow (suc P.rank) (ratios P coord e b.0) (ratios P coord e n)) ⊎ (((j : ℕ) → j < suc P.rank → ratios P coord e b.0 j ≡ ratios P coord e n j) ⊎ (IsLexBelow (suc P.rank) (ratios P coord e n) (ratios P coord e b.0))))
-              → ((l : ℕ) × (MayLeave P B coord e l) × ((k : ℕ) → k < suc n → MayLeave P B coord e k → k ≢ l → IsLexBelow (suc P.rank) (ratios P coord e l) (ratios P coord e k)))
+          choose : ((b.0 ≡ n) ⊎ (b.0 ≢ n))
+              → ((IsLexBelow (suc P.rank) (ratios P coord e b.0) (ratios P coord e n))
+              ⊎ (((j : ℕ) → j < suc P.rank → ratios P coord e b.0 j ≡ ratios P coord e n j)
+              ⊎ (IsLexBelow (suc P.rank) (ratios P coord e n) (ratios P coord e b.0))))
+              → ((l : ℕ) × (MayLeave P B coord e l)
+              × ((k : ℕ) → k < suc n → MayLeave P B coord e k → k ≢ l → IsLexBelow (suc P.rank) (ratios P coord e l) (ratios P coord e k)))
               ⊎ ((k : ℕ) → k < suc n → MayLeave P B coord e k → ⊥)
           choose (inl s) w = inl (b.0, b.1, λ k lk d ne. same_as s k d ne (last_or_before k n lk))
           choose (inr m) (inl w) = inl (b.0, b.1, λ k lk d ne. kept w k d ne (last_or_before k n lk))
@@ -216,7 +234,8 @@ module _ (P : Program) (B : ℕ → Bool) (coord start : ℕ → ℕ → Rationa
   pub one_leaves : (e k : ℕ) → MayLeave P B coord e k → (l : ℕ) × IsOnlyLeaving P B coord e l
   one_leaves e k c = by (best_below e P.columns.count (omega arith))
     where
-      by : ((l : ℕ) × (MayLeave P B coord e l) × ((k : ℕ) → k < P.columns.count → MayLeave P B coord e k → k ≢ l → IsLexBelow (suc P.rank) (ratios P coord e l) (ratios P coord e k)))
+      by : ((l : ℕ) × (MayLeave P B coord e l)
+          × ((k : ℕ) → k < P.columns.count → MayLeave P B coord e k → k ≢ l → IsLexBelow (suc P.rank) (ratios P coord e l) (ratios P coord e k)))
           ⊎ ((k : ℕ) → k < P.columns.count → MayLeave P B coord e k → ⊥)
           → (l : ℕ) × IsOnlyLeaving P B coord e l
       by (inl b) =

@@ -1,3 +1,4 @@
+pub mod Within
 pub mod Outcome
 pub mod Leaving
 pub mod Step

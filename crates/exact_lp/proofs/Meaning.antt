@@ -1,6 +1,7 @@
 -- The tables of the linear program: they stay rectangles, and one row is that of t.
-use Rattle.std.specs.Prelude.{◌≡◌, ℕ, ◌+◌, ◌<◌, ◌≤◌, true, nat_eq, Option, Some, None}
+use Rattle.std.specs.Prelude.{◌≡◌, ℕ, ◌+◌, ◌<◌, ◌≤◌, true, Option, Some, None}
 use Rattle.std.proofs.Common.{arith, ◌∙◌, ap, refl}
+use Rattle.commutative_ring.proofs.SmallCases.{same_of_test}
 use Rattle.exact_forms.specs.Coordinates.{Columns}
 use Rattle.exact_linear.specs.Tables.{Table, IsRectangle, rows_of, basic_at, first_place, or_zero, holds, row_of}
 use Rattle.exact_linear.specs.Columns.{HasCoordinates}
@@ -24,14 +25,12 @@ pub top_row_is : (A : Columns) (t : Table) (m : ℕ) → IsReady A t m → (top_
 unfolding top_row row_of
 top_row_is A t m R = by (first_place (holds t (top t m)) 0 (rows_of t)) refl
   where
-    of_true : (a b : ℕ) → nat_eq a b ≡ true → a ≡ b
-    of_true a b h = grind arith
-
-    by : (o : Option ℕ) → first_place (holds t (top t m)) 0 (rows_of t) ≡ o → (or_zero (first_place (holds t (top t m)) 0 (rows_of t)) < rows_of t) × (basic_at t (or_zero (first_place (holds t (top t m)) 0 (rows_of t))) ≡ top t m)
+    by : (o : Option ℕ) → first_place (holds t (top t m)) 0 (rows_of t) ≡ o → (or_zero (first_place (holds t (top t m)) 0 (rows_of t)) < rows_of t)
+        × (basic_at t (or_zero (first_place (holds t (top t m)) 0 (rows_of t))) ≡ top t m)
     by None h =
         let f = first_none (holds t (top t m)) 0 (rows_of t) h R.top_is.0 (omega arith) (let a = R.top_is.1 in omega arith) in
         absurd (let g : holds t (top t m) R.top_is.0 ≡ true = (let e = R.top_is.2 in grind arith) in cc)
     by (Some i) h =
         let f = first_found (holds t (top t m)) 0 (rows_of t) i h in
         let e : or_zero (first_place (holds t (top t m)) 0 (rows_of t)) ≡ i = ap or_zero h in
-        ((let b = f.below in omega arith), ap (basic_at t) e ∙ of_true (basic_at t i) (top t m) f.passes)
+        ((let b = f.below in omega arith), ap (basic_at t) e ∙ same_of_test (basic_at t i) (top t m) f.passes)

@@ -1,17 +1,19 @@
 -- What the answer Outside names.
-use Rattle.std.specs.Prelude.{◌≡◌, ◌≢◌, ℕ, zero, suc, ◌+◌, ◌-◌, ◌<◌, ◌≤◌, ◌⊎◌, pos, Bool, true, false, List, [], ◌∷◌, map, length, slice_index_or, if◌then◌else◌}
+use Rattle.std.specs.Prelude.{◌≡◌, ◌≢◌, ℕ, zero, suc, ◌+◌, ◌-◌, ◌<◌, ◌≤◌, ◌⊎◌, pos, Bool, true, false, List, [], ◌∷◌, map, length, slice_index_or}
+use Rattle.std.specs.Prelude.{if◌then◌else◌}
 use Rattle.std.proofs.Common.{arith, sym, ◌∙◌, ap, refl, subst, inl, inr}
 use Rattle.std.proofs.lemmas.List.{get_or-map, length-map}
 use Rattle.commutative_ring.proofs.Ring.{neg, v0}
+use Rattle.commutative_ring.proofs.SmallCases.{same_or_not, true_or_false}
 use Rattle.exact_forms.specs.Rational.{Rational, whole, neg_ℚ}
 use Rattle.exact_forms.specs.Sums.{sum_ℚ}
 use Rattle.exact_forms.specs.Signs.{IsPositive, IsNegative, IsNonnegative}
 use Rattle.exact_forms.specs.Coordinates.{IsBasis, swapped, exchanged_coordinates}
-use Rattle.exact_forms.proofs.Coordinates.{basis_mark, mark_off, read_off, exchange_keeps, true_or_false}
+use Rattle.exact_forms.proofs.Coordinates.{basis_mark, mark_off, read_off, exchange_keeps}
 use Rattle.exact_forms.proofs.Rational.{ring_ℚ}
 use Rattle.exact_forms.proofs.RationalSums.{sum_ℚ-neg}
 use Rattle.exact_forms.proofs.Signs.{positive_not_zero, zero_not_positive, one_positive, not_both, total_nonneg, negative_or_nonneg, negative_opposite}
-use Rattle.exact_forms.proofs.Slacks.{replaced_here, same_or_not}
+use Rattle.exact_forms.proofs.Slacks.{replaced_here}
 use Rattle.exact_linear.proofs.Counts.{no_more}
 use Rattle.exact_linear.proofs.Listed.{places_pass, places_increase, places_all, basic_row, row_basic}
 use Rattle.exact_linear.specs.Squares.{name_at}
@@ -23,6 +25,7 @@ use Rattle.exact_lp.specs.Simplex.{IsNamed, IsOutsideOf}
 use Rattle.exact_lp.proofs.Outcome.{times_first, sum_over_first}
 use Rattle.exact_lp.proofs.Tableaux.{IsTableau}
 use Rattle.exact_lp.proofs.TableFacts.{positive_fact, positive_test, top_within, vector_within, at_top}
+use Rattle.exact_lp.proofs.Within.{first_within}
 
 not_positive_fact : (x : Rational) → is_positive x ≡ false → IsNonnegative (neg_ℚ x)
 not_positive_fact x h = by (negative_or_nonneg (neg_ℚ x))
@@ -42,17 +45,30 @@ above_is : (t : Table) (r c : ℕ) (cs : List ℕ) → first_above t r (c ∷ cs
 unfolding first_above
 above_is t r c cs = refl
 
-find_above : (t : Table) (r : ℕ) (cs : List ℕ) → ((place : ℕ) × (IsFirstAbove t r cs place)) ⊎ ((j : ℕ) → j < length cs → is_positive (table_entry t r (slice_index_or cs j 0)) ≡ false)
+find_above : (t : Table) (r : ℕ) (cs : List ℕ)
+    → ((place : ℕ) × (IsFirstAbove t r cs place)) ⊎ ((j : ℕ) → j < length cs → is_positive (table_entry t r (slice_index_or cs j 0)) ≡ false)
 find_above t r [] = inr (λ j l. absurd (omega arith))
 find_above t r (c ∷ cs) = by (is_positive (table_entry t r c)) refl (find_above t r cs)
   where
-    both : is_positive (table_entry t r c) ≡ false → (n : ℕ) → ((j : ℕ) → j < n → is_positive (table_entry t r (slice_index_or cs j 0)) ≡ false) → (j : ℕ) → j < suc n → is_positive (table_entry t r (slice_index_or (c ∷ cs) j 0)) ≡ false
+    both : is_positive (table_entry t r c) ≡ false → (n : ℕ) → ((j : ℕ) → j < n → is_positive (table_entry t r (slice_index_or cs j 0)) ≡ false) → (j : ℕ)
+        → j < suc n → is_positive (table_entry t r (slice_index_or (c ∷ cs) j 0)) ≡ false
     both e n h zero l = e
     both e n h (suc j) l = h j (omega arith)
 
-    by : (b : Bool) → is_positive (table_entry t r c) ≡ b → (((place : ℕ) × (IsFirstAbove t r cs place)) ⊎ ((j : ℕ) → j < length cs → is_positive (table_entry t r (slice_index_or cs j 0)) ≡ false))
-        → ((place : ℕ) × (IsFirstAbove t r (c ∷ cs) place)) ⊎ ((j : ℕ) → j < length (c ∷ cs) → is_positive (table_entry t r (slice_index_or (c ∷ cs) j 0)) ≡ false)
-    by true e rest = inl (0, record { within = omega arith; here = above_is t r c cs ∙ ap (λ (b : Bool). if b then c else first_above t r cs) e; passes = e; before = λ j l. absurd (omega arith) })
+    by : (b : Bool) → is_positive (table_entry t r c) ≡ b
+        → (((place : ℕ) × (IsFirstAbove t r cs place)) ⊎ ((j : ℕ) → j < length cs → is_positive (table_entry t r (slice_index_or cs j 0)) ≡ false))
+        → ((place : ℕ) × (IsFirstAbove t r (c ∷ cs) place))
+        ⊎ ((j : ℕ) → j < length (c ∷ cs) → is_positive (table_entry t r (slice_index_or (c ∷ cs) j 0)) ≡ false)
+    by true e rest =
+        inl (
+          0,
+          record {
+            within = omega arith;
+            here = above_is t r c cs ∙ ap (λ (b : Bool). if b then c else first_above t r cs) e;
+            passes = e;
+            before = λ j l. absurd (omega arith);
+          },
+        )
     by false e (inl f) = inl (
       suc f.0,
       record {
@@ -64,7 +80,8 @@ find_above t r (c ∷ cs) = by (is_positive (table_entry t r c)) refl (find_abov
     )
     by false e (inr n) = inr (both e (length cs) n)
 
-module _ (P : Program) (t : Table) (m : ℕ) (cs : List ℕ) (B : ℕ → Bool) (coord start : ℕ → ℕ → Rational) (T : IsTableau P t m cs B coord) (R : IsProgram P start) where
+module _ (P : Program) (t : Table) (m : ℕ) (cs : List ℕ) (B : ℕ → Bool) (coord start : ℕ → ℕ
+    → Rational) (T : IsTableau P t m cs B coord) (R : IsProgram P start) where
   -- ---- the vectors of the basis
   vector_basic : (k : ℕ) → k < P.columns.count → B k ≡ true → is_basic t k ≡ true
   vector_basic k l b = let i = T.shown.every k l b in row_basic t k i.0 i.1 i.2
@@ -78,7 +95,8 @@ module _ (P : Program) (t : Table) (m : ℕ) (cs : List ℕ) (B : ℕ → Bool) 
 
   zero_basic : (i : ℕ) → i < length (zeros_of t m) → B (P.low + name_at (zeros_of t m) i) ≡ true
   unfolding zeros_of
-  zero_basic i l = ap (λ (r : ℕ). B (r + name_at (places_where (is_basic_vector t) 0 m) i)) T.low ∙ basic_vector (rows_of t + name_at (places_where (is_basic_vector t) 0 m) i) (places_pass (is_basic_vector t) 0 m i l).passes
+  zero_basic i l = ap (λ (r : ℕ). B (r + name_at (places_where (is_basic_vector t) 0 m) i)) T.low
+      ∙ basic_vector (rows_of t + name_at (places_where (is_basic_vector t) 0 m) i) (places_pass (is_basic_vector t) 0 m i l).passes
 
   zeros_increase : (i j : ℕ) → i < j → j < length (zeros_of t m) → name_at (zeros_of t m) i < name_at (zeros_of t m) j
   unfolding zeros_of
@@ -137,7 +155,8 @@ module _ (P : Program) (t : Table) (m : ℕ) (cs : List ℕ) (B : ℕ → Bool) 
   named_row (suc j) l =
       let s = named_length in
       let lj : j < length (zeros_of t m) = omega arith in
-      let i = T.shown.every (P.low + name_at (zeros_of t m) j) (vector_within P t m cs B coord T (P.low + name_at (zeros_of t m) j) (zero_high j lj)) (zero_basic j lj) in
+      let i = T.shown.every (P.low + name_at (zeros_of t m) j) (vector_within P t m cs B coord T (P.low + name_at (zeros_of t m) j) (zero_high j lj))
+      (zero_basic j lj) in
       (i.0, i.1, i.2 ∙ sym (named_zero j lj))
 
   zeros_number : length (zeros_of t m) + 1 ≡ P.low
@@ -149,11 +168,8 @@ module _ (P : Program) (t : Table) (m : ℕ) (cs : List ℕ) (B : ℕ → Bool) 
       omega arith
 
   -- ---- the vector that leaves
-  ranked_column : (j : ℕ) → j < P.rank → P.first j < P.columns.count
-  ranked_column j l = vector_within P t m cs B coord T (P.first j) (R.first_is_vector j l).1
-
   entry_is : (j : ℕ) → j < P.rank → table_entry t (top_row t m) (slice_index_or cs j 0) ≡ coord (P.first j) P.top
-  entry_is j l = ap (λ (c : ℕ). table_entry t (top_row t m) c) (T.ranks j l) ∙ at_top P t m cs B coord T (P.first j) (ranked_column j l)
+  entry_is j l = ap (λ (c : ℕ). table_entry t (top_row t m) c) (T.ranks j l) ∙ at_top P t m cs B coord T (P.first j) (first_within P start R j l)
 
   -- the coordinates of the first basis at t sum to 1
   sum_at_top : sum_ℚ P.rank (λ j. coord (P.first j) P.top) ≡ whole (pos 1)
@@ -169,12 +185,15 @@ module _ (P : Program) (t : Table) (m : ℕ) (cs : List ℕ) (B : ℕ → Bool) 
   above_there : (place : ℕ) × (IsFirstAbove t (top_row t m) cs place)
   above_there = by (find_above t (top_row t m) cs)
     where
-      by : (((place : ℕ) × (IsFirstAbove t (top_row t m) cs place)) ⊎ ((j : ℕ) → j < length cs → is_positive (table_entry t (top_row t m) (slice_index_or cs j 0)) ≡ false)) → (place : ℕ) × (IsFirstAbove t (top_row t m) cs place)
+      by : (((place : ℕ) × (IsFirstAbove t (top_row t m) cs place))
+          ⊎ ((j : ℕ) → j < length cs → is_positive (table_entry t (top_row t m) (slice_index_or cs j 0)) ≡ false))
+          → (place : ℕ) × (IsFirstAbove t (top_row t m) cs place)
       by (inl f) = f
       by (inr n) = absurd (not_both (whole (pos 1)) one_positive
           (subst IsNonnegative (sum_ℚ-neg P.rank (λ j. coord (P.first j) P.top) ∙ ap neg_ℚ sum_at_top)
           (total_nonneg P.rank (λ j. neg_ℚ (coord (P.first j) P.top))
-          (λ j l. subst (λ x. IsNonnegative (neg_ℚ x)) (entry_is j l) (not_positive_fact (table_entry t (top_row t m) (slice_index_or cs j 0)) (n j (let r = T.rank in omega arith)))))))
+          (λ j l. subst (λ x. IsNonnegative (neg_ℚ x)) (entry_is j l)
+          (not_positive_fact (table_entry t (top_row t m) (slice_index_or cs j 0)) (n j (let r = T.rank in omega arith)))))))
 
   positive_not_basic : (e : ℕ) → e < P.columns.count → e ≢ P.top → IsPositive (coord e P.top) → B e ≡ false
   positive_not_basic e le n h = by (true_or_false (B e))
@@ -182,7 +201,8 @@ module _ (P : Program) (t : Table) (m : ℕ) (cs : List ℕ) (B : ℕ → Bool) 
       by : ((B e ≡ true) ⊎ (B e ≡ false)) → B e ≡ false
       by (inr f) = f
       by (inl b) = absurd (zero_not_positive (subst IsPositive
-          (basis_mark P.columns B coord T.state.basis e le b P.top (top_within P t m cs B coord T) ∙ mark_off P.columns e P.top (λ (s : P.top ≡ e). n (sym s))) h))
+          (basis_mark P.columns B coord T.state.basis e le b P.top (top_within P t m cs B coord T)
+          ∙ mark_off P.columns e P.top (λ (s : P.top ≡ e). n (sym s))) h))
 
   pub outside_names : IsOutsideOf P B coord (zeros_of t m) (outside_vector t m cs)
   outside_names =
@@ -190,11 +210,12 @@ module _ (P : Program) (t : Table) (m : ℕ) (cs : List ℕ) (B : ℕ → Bool) 
       let place : ℕ = f.0 in
       let lp : place < P.rank = (let w = f.1.within in let r = T.rank in omega arith) in
       let e : ℕ = P.first place in
-      let le : e < P.columns.count = ranked_column place lp in
+      let le : e < P.columns.count = first_within P start R place lp in
       let low = (R.first_is_vector place lp).0 in
       let apart : e ≢ P.top = R.top_apart e low (R.first_is_vector place lp).1 in
       let units = T.low in
-      let pos_e : IsPositive (coord e P.top) = subst IsPositive (entry_is place lp) (positive_fact (table_entry t (top_row t m) (slice_index_or cs place 0)) f.1.passes) in
+      let pos_e : IsPositive (coord e P.top) =
+      subst IsPositive (entry_is place lp) (positive_fact (table_entry t (top_row t m) (slice_index_or cs place 0)) f.1.passes) in
       let is : first_above t (top_row t m) cs ≡ e = f.1.here ∙ T.ranks place lp in
       let v : P.low + outside_vector t m cs ≡ e = omega arith in
       let out : B e ≡ false = positive_not_basic e le apart pos_e in
@@ -209,7 +230,9 @@ module _ (P : Program) (t : Table) (m : ℕ) (cs : List ℕ) (B : ℕ → Bool) 
         within = lp;
         vector_is = v;
         positive = pos_e;
-        before = λ j l. subst (λ x. IsNonnegative (neg_ℚ x)) (entry_is j (omega arith)) (not_positive_fact (table_entry t (top_row t m) (slice_index_or cs j 0)) (f.1.before j l));
+        before = λ j l. subst (λ x. IsNonnegative (neg_ℚ x)) (entry_is j (omega arith))
+            (not_positive_fact (table_entry t (top_row t m) (slice_index_or cs j 0)) (f.1.before j l));
         is_basis = subst (λ (e : ℕ). IsBasis P.columns (swapped B P.top e) (exchanged_coordinates coord P.top e)) (sym v)
-            (exchange_keeps P.columns B coord P.top e (top_within P t m cs B coord T) le T.state.has_top out (positive_not_zero (coord e P.top) pos_e) T.state.basis);
+            (exchange_keeps P.columns B coord P.top e (top_within P t m cs B coord T) le T.state.has_top out (positive_not_zero (coord e P.top) pos_e)
+            T.state.basis);
       }

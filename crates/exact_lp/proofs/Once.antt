@@ -1,6 +1,6 @@
 -- No basis comes twice.
-use Rattle.std.specs.Prelude.{◌≡◌, ℕ, zero, suc, ◌<◌, pos, Bool, [], ◌∷◌}
-use Rattle.std.proofs.Common.{arith, ◌∙◌, ap, refl, subst}
+use Rattle.std.specs.Prelude.{◌≡◌, ℕ, suc, ◌<◌, pos, Bool, [], ◌∷◌}
+use Rattle.std.proofs.Common.{◌∙◌, ap, refl, subst}
 use Rattle.commutative_ring.proofs.Ring.{num, ◌⊕◌, neg, v0}
 use Rattle.exact_forms.specs.Rational.{Rational, ◌+ℚ◌, neg_ℚ}
 use Rattle.exact_forms.proofs.Rational.{ring_ℚ}
@@ -8,6 +8,7 @@ use Rattle.exact_forms.specs.Signs.{IsPositive}
 use Rattle.exact_forms.specs.Lexicographic.{IsLexBelow}
 use Rattle.exact_forms.specs.Coordinates.{Columns, IsBasis}
 use Rattle.exact_lp.specs.Program.{Program, order, IsProgram}
+use Rattle.exact_lp.proofs.Within.{order_within}
 use Rattle.exact_forms.proofs.Signs.{zero_not_positive}
 use Rattle.exact_forms.proofs.Coordinates.{coordinates_unique}
 
@@ -22,15 +23,13 @@ same_basis A B C coord other H K same j k lj lk =
 -- a list is not below itself
 pub lex_irreflexive : (n : ℕ) (f g : ℕ → Rational) → ((k : ℕ) → k < n → f k ≡ g k) → IsLexBelow n f g → ⊥
 lex_irreflexive n f g same h =
-    zero_not_positive (subst IsPositive (ap (λ x. g h.place +ℚ neg_ℚ x) (same h.place h.within) ∙ ring_ℚ (g h.place ∷ []) (v0 ⊕ neg v0) (num (pos 0)) refl) h.there)
+    zero_not_positive (subst IsPositive (ap (λ x. g h.place +ℚ neg_ℚ x) (same h.place h.within)
+    ∙ ring_ℚ (g h.place ∷ []) (v0 ⊕ neg v0) (num (pos 0)) refl) h.there)
 
 -- where t's list has grown, the basis is another
-pub grown_is_other : (P : Program) (B C : ℕ → Bool) (coord other start : ℕ → ℕ → Rational) → IsProgram P start → IsBasis P.columns B coord → IsBasis P.columns C other
+pub grown_is_other : (P : Program) (B C : ℕ → Bool) (coord other start : ℕ → ℕ → Rational) → IsProgram P start → IsBasis P.columns B coord
+    → IsBasis P.columns C other
     → IsLexBelow (suc P.rank) (λ j. coord (order P j) P.top) (λ j. other (order P j) P.top) → ((k : ℕ) → k < P.columns.count → B k ≡ C k) → ⊥
 unfolding order
 grown_is_other P B C coord other start R H K grown same =
-    lex_irreflexive (suc P.rank) _ _ (λ j l. same_basis P.columns B C coord other H K same (order P j) P.top (within j l) R.top_within) grown
-  where
-    within : (j : ℕ) → j < suc P.rank → order P j < P.columns.count
-    within zero l = R.target_within
-    within (suc j) l = let a = (R.first_is_vector j (omega arith)).1 in let b = R.vectors in omega arith
+    lex_irreflexive (suc P.rank) _ _ (λ j l. same_basis P.columns B C coord other H K same (order P j) P.top (order_within P start R j l) R.top_within) grown

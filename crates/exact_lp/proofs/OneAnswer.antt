@@ -1,6 +1,7 @@
 -- At most one answer, want of memory aside, fits a problem and a budget.
 use Rattle.std.specs.Prelude.{◌≡◌, ℕ, zero, suc, ◌<◌, ◌⊎◌, true, false, List, [], ◌++◌, length, Option, Some, None}
 use Rattle.std.proofs.Common.{arith, sym, ◌∙◌, ap, ap₂, refl, subst, inl, inr}
+use Rattle.commutative_ring.proofs.SmallCases.{here_or_before, three_ways}
 use Rattle.symmetric_matrix.proofs.Owed.{first_owed-append_none, first_owed-append_some}
 use Rattle.exact_linear.specs.Tables.{is_there}
 use Rattle.exact_lp.specs.declared.placed.Exchange.{Exchange}
@@ -8,11 +9,11 @@ use Rattle.exact_lp.specs.declared.placed.PlaceOp.{PlaceOp}
 use Rattle.exact_lp.specs.declared.placed.Placed.{Placed}
 use Rattle.exact_lp.specs.declared.placed.Placed.TheVariants.{Inside, Outside, Pivots, Wide, OutOfMemory}
 use Rattle.exact_lp.specs.Rule.{entering}
-use Rattle.exact_lp.specs.Placement.{Problem, place_is_owed, first_owed_in, table_after, steps_of, is_last, IsStepDue, leg_ops, legs, IsRun, IsInsideAfter, IsOutsideAfter, IsRefusedAfter, IsOwedAfter, IsPlaceAnswer}
+use Rattle.exact_lp.specs.Placement.{Problem, place_is_owed, first_owed_in, table_after, steps_of, is_last, IsStepDue, leg_ops, legs, IsRun, IsInsideAfter}
+use Rattle.exact_lp.specs.Placement.{IsOutsideAfter, IsRefusedAfter, IsOwedAfter, IsPlaceAnswer}
 use Rattle.exact_lp.specs.Theorems.{AtMostOnePlaceAnswer}
 use Rattle.exact_lp.proofs.Budgets.{owed_first, owed_before}
 use Rattle.exact_lp.proofs.Placing.{not_due}
-use Rattle.exact_lp.proofs.TableFacts.{last_or_before}
 
 -- ---- nothing of a part is owed
 none_before : (xs ys : List PlaceOp) → first_owed_in (xs ++ ys) ≡ None → first_owed_in xs ≡ None
@@ -25,7 +26,7 @@ none_before xs ys h = by (first_owed_in xs) refl
 none_of_leg : (p : Problem) (k n : ℕ) → k < n → first_owed_in (legs p n) ≡ None → first_owed_in (leg_ops p k) ≡ None
 unfolding legs
 none_of_leg p k zero l h = absurd (omega arith)
-none_of_leg p k (suc n) l h = by (last_or_before k n (omega arith)) (λ m. none_of_leg p k n m before)
+none_of_leg p k (suc n) l h = by (here_or_before k n (omega arith)) (λ m. none_of_leg p k n m before)
   where
     before : first_owed_in (legs p n) ≡ None
     before = none_before (legs p n) (leg_ops p n) h
@@ -61,10 +62,8 @@ module _ (p : Problem) (budget : ℕ) where
   not_before (Wide op made) k A steps R l = let f = owed_first p budget k op A in let g = none_of_leg p k (length steps) l R.owes in absurd cc
   not_before OutOfMemory k A steps R l = A
 
-  three_ways : (i j : ℕ) → (i < j) ⊎ ((i ≡ j) ⊎ (j < i))
-  three_ways i j = grind arith
-
-  same_length : (a b : Placed) (ss ts : List Exchange) → IsRun p budget ss → IsRun p budget ts → IsAfter p budget a (length ss) → IsAfter p budget b (length ts) → length ss ≡ length ts
+  same_length : (a b : Placed) (ss ts : List Exchange) → IsRun p budget ss → IsRun p budget ts → IsAfter p budget a (length ss) → IsAfter p budget b (length ts)
+      → length ss ≡ length ts
   same_length a b ss ts R S A B = by (three_ways (length ss) (length ts))
     where
       by : ((length ss < length ts) ⊎ ((length ss ≡ length ts) ⊎ (length ts < length ss))) → length ss ≡ length ts
@@ -110,7 +109,8 @@ module _ (p : Problem) (budget : ℕ) where
   same_after (Wide x ss) OutOfMemory k e A B = absurd B
   same_after OutOfMemory b k e A B = absurd A
 
-  one_of : (a b : Placed) → IsRun p budget (steps_in a) → IsRun p budget (steps_in b) → IsAfter p budget a (length (steps_in a)) → IsAfter p budget b (length (steps_in b)) → a ≡ b
+  one_of : (a b : Placed) → IsRun p budget (steps_in a) → IsRun p budget (steps_in b) → IsAfter p budget a (length (steps_in a))
+      → IsAfter p budget b (length (steps_in b)) → a ≡ b
   one_of a b R S A B =
       let n = same_length a b (steps_in a) (steps_in b) R S A B in
       same_after a b (length (steps_in b)) (R.are ∙ ap (steps_of p) n ∙ sym S.are) (subst (λ (k : ℕ). IsAfter p budget a k) n A) B
@@ -125,7 +125,8 @@ module _ (p : Problem) (budget : ℕ) where
 pub one_answer : AtMostOnePlaceAnswer
 one_answer p budget a b A B = by (parts p budget a A) (parts p budget b B)
   where
-    by : ((a ≡ OutOfMemory) ⊎ (IsRun p budget (steps_in a) × IsAfter p budget a (length (steps_in a)))) → ((b ≡ OutOfMemory) ⊎ (IsRun p budget (steps_in b) × IsAfter p budget b (length (steps_in b))))
+    by : ((a ≡ OutOfMemory) ⊎ (IsRun p budget (steps_in a) × IsAfter p budget a (length (steps_in a))))
+        → ((b ≡ OutOfMemory) ⊎ (IsRun p budget (steps_in b) × IsAfter p budget b (length (steps_in b))))
         → (a ≡ b) ⊎ ((a ≡ OutOfMemory) ⊎ (b ≡ OutOfMemory))
     by (inl e) q = inr (inl e)
     by (inr A) (inl e) = inr (inr e)

@@ -1,10 +1,12 @@
 -- The opening: t comes in at the least entry of the target, and the table shows the first state.
-use Rattle.std.specs.Prelude.{◌≡◌, ℕ, zero, suc, ◌+◌, ◌-◌, ◌<◌, ◌≤◌, ◌⊎◌, ℤ, pos, Bool, true, false, nat_lt, List, [], ◌∷◌, length, slice_index_or, if◌then◌else◌}
+use Rattle.std.specs.Prelude.{◌≡◌, ℕ, zero, suc, ◌+◌, ◌-◌, ◌<◌, ◌≤◌, ◌⊎◌, ℤ, pos, Bool, true, false, nat_lt, List, [], ◌∷◌, length, slice_index_or}
+use Rattle.std.specs.Prelude.{if◌then◌else◌}
 use Rattle.std.specs.Ordering.{MatchOrdering}
 use Rattle.std.specs.declared.cmp.Ordering.{Ordering}
 use Rattle.std.specs.declared.cmp.Ordering.TheVariants.{Less, Equal, Greater}
 use Rattle.std.proofs.Common.{arith, sym, ◌∙◌, ap, ap₂, refl, subst, inl, inr}
 use Rattle.commutative_ring.proofs.Ring.{num, ◌⊕◌, neg, v0, v1, v2}
+use Rattle.commutative_ring.proofs.SmallCases.{below_of_test, here_or_before}
 use Rattle.exact_forms.specs.Rational.{Rational, ◌+ℚ◌, neg_ℚ, ◌<ℚ◌}
 use Rattle.exact_forms.specs.Signs.{IsPositive, IsNonnegative}
 use Rattle.exact_forms.specs.Copositive.{IsPerfect}
@@ -44,17 +46,15 @@ pub record IsLeastRow (t : Table) (m best i : ℕ) : Type 0 where
   pub least : (j : ℕ) → j < i → IsNonnegative (excess t m best j)
   pub last : (j : ℕ) → j < i → basic_at t best < basic_at t j → IsPositive (excess t m best j)
 
-last_or_before : (j i : ℕ) → j < i + 1 → (j ≡ i) ⊎ (j < i)
-last_or_before j i l = grind arith
-
 itself : (t : Table) (m i : ℕ) → IsNonnegative (excess t m i i)
 itself t m i = nonneg_zero _ (ring_ℚ (table_entry t i (target t m) ∷ []) (v0 ⊕ neg v0) (num (pos 0)) refl)
 
-least_kept : (t : Table) (m best i : ℕ) → IsLeastRow t m best i → IsNonnegative (excess t m best i) → (basic_at t best < basic_at t i → IsPositive (excess t m best i)) → IsLeastRow t m best (i + 1)
+least_kept : (t : Table) (m best i : ℕ) → IsLeastRow t m best i → IsNonnegative (excess t m best i)
+    → (basic_at t best < basic_at t i → IsPositive (excess t m best i)) → IsLeastRow t m best (i + 1)
 least_kept t m best i L n p = record {
   before = let b = L.before in omega arith;
-  least = λ j l. least j (last_or_before j i l);
-  last = λ j l h. last j h (last_or_before j i l);
+  least = λ j l. least j (here_or_before j i l);
+  last = λ j l h. last j h (here_or_before j i l);
 }
   where
     least : (j : ℕ) → ((j ≡ i) ⊎ (j < i)) → IsNonnegative (excess t m best j)
@@ -65,11 +65,12 @@ least_kept t m best i L n p = record {
     last j h (inl s) = subst (λ (j : ℕ). IsPositive (excess t m best j)) (sym s) (p (subst (λ (j : ℕ). basic_at t best < basic_at t j) s h))
     last j h (inr l) = L.last j l h
 
-least_taken : (t : Table) (m i : ℕ) → ((j : ℕ) → j < i → IsNonnegative (excess t m i j)) → ((j : ℕ) → j < i → basic_at t i < basic_at t j → IsPositive (excess t m i j)) → IsLeastRow t m i (i + 1)
+least_taken : (t : Table) (m i : ℕ) → ((j : ℕ) → j < i → IsNonnegative (excess t m i j))
+    → ((j : ℕ) → j < i → basic_at t i < basic_at t j → IsPositive (excess t m i j)) → IsLeastRow t m i (i + 1)
 least_taken t m i n p = record {
   before = omega arith;
-  least = λ j l. least j (last_or_before j i l);
-  last = λ j l h. last j h (last_or_before j i l);
+  least = λ j l. least j (here_or_before j i l);
+  last = λ j l h. last j h (here_or_before j i l);
 }
   where
     least : (j : ℕ) → ((j ≡ i) ⊎ (j < i)) → IsNonnegative (excess t m i j)
@@ -82,34 +83,41 @@ least_taken t m i n p = record {
 
 least_next : (t : Table) (m best i : ℕ) → IsLeastRow t m best i → IsLeastRow t m (if is_lower t m best i then i else best) (i + 1)
 unfolding is_lower
-least_next t m best i L = by (order_of (table_entry t i (target t m)) (table_entry t best (target t m))) (order_of_ranks (table_entry t i (target t m)) (table_entry t best (target t m)) _ refl)
+least_next t m best i L =
+    by (order_of (table_entry t i (target t m)) (table_entry t best (target t m)))
+    (order_of_ranks (table_entry t i (target t m)) (table_entry t best (target t m)) _ refl)
   where
     lower : table_entry t i (target t m) <ℚ table_entry t best (target t m) → (j : ℕ) → j < i → IsPositive (excess t m i j)
     lower r j l =
         subst IsPositive
-        (ring_ℚ (table_entry t i (target t m) ∷ table_entry t best (target t m) ∷ table_entry t j (target t m) ∷ []) ((v1 ⊕ neg v0) ⊕ (v2 ⊕ neg v1)) (v2 ⊕ neg v0) refl)
-        (positive_add (excess t m i best) (excess t m best j) ((lt-positive (table_entry t i (target t m)) (table_entry t best (target t m))).0 r) (L.least j l))
+        (ring_ℚ (table_entry t i (target t m) ∷ table_entry t best (target t m) ∷ table_entry t j (target t m) ∷ []) ((v1 ⊕ neg v0) ⊕ (v2 ⊕ neg v1))
+        (v2 ⊕ neg v0) refl)
+        (positive_add (excess t m i best) (excess t m best j) ((lt-positive (table_entry t i (target t m)) (table_entry t best (target t m))).0 r)
+        (L.least j l))
 
     equal : table_entry t i (target t m) ≡ table_entry t best (target t m) → (j : ℕ) → excess t m best j ≡ excess t m i j
     equal e j = ap (λ x. table_entry t j (target t m) +ℚ neg_ℚ x) (sym e)
 
-    by_column : (b : Bool) → nat_lt (basic_at t best) (basic_at t i) ≡ b → table_entry t i (target t m) ≡ table_entry t best (target t m) → IsLeastRow t m (if b then i else best) (i + 1)
+    by_column : (b : Bool) → nat_lt (basic_at t best) (basic_at t i) ≡ b → table_entry t i (target t m) ≡ table_entry t best (target t m)
+        → IsLeastRow t m (if b then i else best) (i + 1)
     by_column true h e = least_taken t m i
         (λ j l. subst IsNonnegative (equal e j) (L.least j l))
-        (λ j l a. subst IsPositive (equal e j) (L.last j l (let b = of_true (basic_at t best) (basic_at t i) h in omega arith)))
-      where
-        of_true : (a b : ℕ) → nat_lt a b ≡ true → a < b
-        of_true a b e = grind arith
-    by_column false h e = least_kept t m best i L (subst IsNonnegative (sym (equal e i)) (itself t m i)) (λ a. absurd (of_false (basic_at t best) (basic_at t i) h a))
+        (λ j l a. subst IsPositive (equal e j) (L.last j l (let b = below_of_test (basic_at t best) (basic_at t i) h in omega arith)))
+    by_column false h e =
+        least_kept t m best i L (subst IsNonnegative (sym (equal e i)) (itself t m i)) (λ a. absurd (of_false (basic_at t best) (basic_at t i) h a))
       where
         of_false : (a b : ℕ) → nat_lt a b ≡ false → a < b → ⊥
         of_false a b e l = grind arith
 
-    by : (o : Ordering) → MatchOrdering o (table_entry t i (target t m) <ℚ table_entry t best (target t m)) (table_entry t i (target t m) ≡ table_entry t best (target t m)) (table_entry t best (target t m) <ℚ table_entry t i (target t m))
-        → IsLeastRow t m (if (elim o as (λ _. Bool) [ Less ↦ true | Equal ↦ nat_lt (basic_at t best) (basic_at t i) | Greater ↦ false ]) then i else best) (i + 1)
+    by : (o : Ordering)
+        → MatchOrdering o (table_entry t i (target t m) <ℚ table_entry t best (target t m)) (table_entry t i (target t m) ≡ table_entry t best (target t m))
+        (table_entry t best (target t m) <ℚ table_entry t i (target t m))
+        → IsLeastRow t m (if (elim o as (λ _. Bool) [ Less ↦ true | Equal ↦ nat_lt (basic_at t best) (basic_at t i) | Greater ↦ false ]) then i else best)
+        (i + 1)
     by Less r = least_taken t m i (λ j l. positive_nonneg _ (lower r j l)) (λ j l h. lower r j l)
     by Equal e = by_column (nat_lt (basic_at t best) (basic_at t i)) refl e
-    by Greater r = let p = (lt-positive (table_entry t best (target t m)) (table_entry t i (target t m))).0 r in least_kept t m best i L (positive_nonneg _ p) (λ h. p)
+    by Greater r = let p = (lt-positive (table_entry t best (target t m)) (table_entry t i (target t m))).0 r in
+        least_kept t m best i L (positive_nonneg _ p) (λ h. p)
 
 least_so_far : (t : Table) (m best i n : ℕ) → IsLeastRow t m best i → IsLeastRow t m (least_row t m best i n) (i + n)
 unfolding least_row
@@ -124,7 +132,8 @@ least_is t m h =
     (least_so_far t m 0 1 (rows_of t - 1) (least_taken t m 0 (λ j l. absurd (omega arith)) (λ j l h. absurd (omega arith))))
 
 -- ---- the first state
-module _ (vectors : List (List ℕ)) (s : Symmetric) (d : ℤ) (some : 1 ≤ s.size) (sizes : (k : ℕ) → k < length vectors → length (slice_index_or vectors k []) ≡ s.size) (perfect : IsPerfect s.size vectors)
+module _ (vectors : List (List ℕ)) (s : Symmetric) (d : ℤ) (some : 1 ≤ s.size) (sizes : (k : ℕ) → k < length vectors
+    → length (slice_index_or vectors k []) ≡ s.size) (perfect : IsPerfect s.size vectors)
     (F : IsFirstTable (start_columns vectors s) (low_of s) (low_of s + length vectors) (first_table (problem_of vectors s d))) where
   abbrev f : Table
   f = the_first vectors s d some sizes perfect F
@@ -163,7 +172,8 @@ module _ (vectors : List (List ℕ)) (s : Symmetric) (d : ℤ) (some : 1 ≤ s.s
   -- the target's coordinate at a basic column
   pub at_basic : (i : ℕ) → i < rows_of f → start P.target (basic_at f i) ≡ table_entry f i (target f (length vectors))
   at_basic i l =
-      coord_other (start_columns vectors s) f (first_coordinates (start_columns vectors s) (low_of s) (low_of s + length vectors) f F) (first_free vectors s d some sizes perfect F) P.target (basic_at f i) (let c = count_is vectors s in omega arith)
+      coord_other (start_columns vectors s) f (first_coordinates (start_columns vectors s) (low_of s) (low_of s + length vectors) f F)
+      (first_free vectors s d some sizes perfect F) P.target (basic_at f i) (let c = count_is vectors s in omega arith)
       ∙ sym (F.shown.entry i P.target l (let c = count_is vectors s in omega arith))
       ∙ ap (λ (r : ℕ). table_entry f i (r + length vectors)) (sym F.rows)
 
@@ -182,34 +192,44 @@ module _ (vectors : List (List ℕ)) (s : Symmetric) (d : ℤ) (some : 1 ≤ s.s
       row_at : (j : ℕ) → j < P.rank → (i : ℕ) × (i < rows_of f) × (basic_at f i ≡ P.first j)
       row_at j l = let v = (R.first_is_vector j l).1 in F.shown.every (P.first j) (let c = count_is vectors s in omega arith) (R.first_is_chosen j l)
 
-      excess_is : (j : ℕ) (i : (i : ℕ) × (i < rows_of f) × (basic_at f i ≡ P.first j)) → excess f (length vectors) open_row i.0 ≡ start P.target (P.first j) +ℚ neg_ℚ (start P.target (P.first place.0))
+      excess_is : (j : ℕ) (i : (i : ℕ) × (i < rows_of f) × (basic_at f i ≡ P.first j))
+          → excess f (length vectors) open_row i.0 ≡ start P.target (P.first j) +ℚ neg_ℚ (start P.target (P.first place.0))
       excess_is j i =
           ap₂ (λ x y. x +ℚ neg_ℚ y) (sym (at_basic i.0 i.1)) (sym (at_basic open_row row_is.before))
           ∙ ap₂ (λ (a : ℕ) (b : ℕ). start P.target a +ℚ neg_ℚ (start P.target b)) i.2 (sym place.2)
 
   open_state : IsState P (swapped F.basis open_column P.top) (exchanged_coordinates start open_column P.top)
-  open_state = subst (λ (k : ℕ). IsState P (swapped F.basis k P.top) (exchanged_coordinates start k P.top)) place.2 (start_state P start R place.0 is_least_place)
+  open_state = subst (λ (k : ℕ). IsState P (swapped F.basis k P.top) (exchanged_coordinates start k P.top)) place.2
+      (start_state P start R place.0 is_least_place)
 
   opened_is : opened f (length vectors) ≡ exchanged (with_sum f) open_row P.top
   unfolding opened
   opened_is = ap (λ (r : ℕ). exchanged (with_sum f) open_row (r + length vectors + 1)) F.rows
 
-  open_shown : IsShown P.columns (swapped F.basis open_column P.top) (exchanged_coordinates start open_column P.top) (rows_of (exchanged (with_sum f) open_row P.top)) (table_entry (exchanged (with_sum f) open_row P.top)) (basic_at (exchanged (with_sum f) open_row P.top))
+  open_shown : IsShown P.columns (swapped F.basis open_column P.top) (exchanged_coordinates start open_column P.top)
+      (rows_of (exchanged (with_sum f) open_row P.top)) (table_entry (exchanged (with_sum f) open_row P.top)) (basic_at (exchanged (with_sum f) open_row P.top))
   open_shown =
-      subst (λ (n : ℕ). IsShown P.columns (swapped F.basis open_column P.top) (exchanged_coordinates start open_column P.top) n (table_entry (exchanged (with_sum f) open_row P.top)) (basic_at (exchanged (with_sum f) open_row P.top))) (sym (exchanged_rows (with_sum f) open_row P.top))
+      subst (λ (n : ℕ). IsShown P.columns (swapped F.basis open_column P.top) (exchanged_coordinates start open_column P.top) n
+      (table_entry (exchanged (with_sum f) open_row P.top)) (basic_at (exchanged (with_sum f) open_row P.top)))
+      (sym (exchanged_rows (with_sum f) open_row P.top))
       (exchange_shown P.columns F.basis start (rows_of f) (table_entry (with_sum f)) (basic_at f) R.basis
-      (summed_shown (start_columns vectors s) f (first_coordinates (start_columns vectors s) (low_of s) (low_of s + length vectors) f F) (first_free vectors s d some sizes perfect F))
-      open_row P.top row_is.before R.top_within (top_not_chosen P start R) (table_entry (exchanged (with_sum f) open_row P.top)) (basic_at (exchanged (with_sum f) open_row P.top))
-      (exchanged_is (with_sum f) P.columns.count open_row P.top (summed_rectangle f F.rectangle) F.width row_is.before (let a = R.top_within in let w = F.width in omega arith)))
+      (summed_shown (start_columns vectors s) f (first_coordinates (start_columns vectors s) (low_of s) (low_of s + length vectors) f F)
+      (first_free vectors s d some sizes perfect F))
+      open_row P.top row_is.before R.top_within (top_not_chosen P start R) (table_entry (exchanged (with_sum f) open_row P.top))
+      (basic_at (exchanged (with_sum f) open_row P.top))
+      (exchanged_is (with_sum f) P.columns.count open_row P.top (summed_rectangle f F.rectangle) F.width row_is.before (let a = R.top_within in
+      let w = F.width in omega arith)))
 
-  pub opened_tableau : IsTableau P (opened f (length vectors)) (length vectors) (firsts (problem_of vectors s d)) (swapped F.basis open_column P.top) (exchanged_coordinates start open_column P.top)
+  pub opened_tableau : IsTableau P (opened f (length vectors)) (length vectors) (firsts (problem_of vectors s d)) (swapped F.basis open_column P.top)
+      (exchanged_coordinates start open_column P.top)
   opened_tableau =
       let er = exchanged_rows (with_sum f) open_row P.top in
       let ew = exchanged_width (with_sum f) open_row P.top in
       let r = F.rows in
       let w = F.width in
       let c = count_is vectors s in
-      subst (λ (t : Table). IsTableau P t (length vectors) (firsts (problem_of vectors s d)) (swapped F.basis open_column P.top) (exchanged_coordinates start open_column P.top)) (sym opened_is)
+      subst (λ (t : Table). IsTableau P t (length vectors) (firsts (problem_of vectors s d)) (swapped F.basis open_column P.top)
+      (exchanged_coordinates start open_column P.top)) (sym opened_is)
       record {
         state = open_state;
         shown = open_shown;

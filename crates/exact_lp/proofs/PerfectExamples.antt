@@ -9,24 +9,18 @@ use Rattle.exact_forms.specs.Sums.{sum_to}
 use Rattle.exact_forms.specs.Forms.{bilinear, form, IsSymmetric}
 use Rattle.exact_forms.specs.Vectors.{coordinate}
 use Rattle.exact_forms.specs.Copositive.{Matrix, IsPerfect}
+use Rattle.exact_forms.proofs.TwoRows.{at_two, form_two}
 use Rattle.symmetric_matrix.specs.StartVectors.{start_list}
 use Rattle.exact_lp.proofs.Examples.{one, one_is, double, three, three_is}
 
 -- more vectors
 pub perfect_append : (n : ℕ) (xs ys : List (List ℕ)) → IsPerfect n xs → IsPerfect n (xs ++ ys)
 perfect_append n xs ys h = record {
-  only_zero = λ z s vanishes i j li lj. h.only_zero z s (λ k d l. subst (λ (v : List ℕ). form n z (coordinate v) ≡ pos 0) (get_or-append xs ys d k l) (vanishes k d (let a = length-append xs ys in omega arith))) i j li lj;
+  only_zero = λ z s vanishes i j li lj.
+      h.only_zero z s
+      (λ k d l. subst (λ (v : List ℕ). form n z (coordinate v) ≡ pos 0) (get_or-append xs ys d k l) (vanishes k d (let a = length-append xs ys in omega arith)))
+      i j li lj;
 }
-
-abbrev at_two : Matrix → ℤ → ℤ → ℤ
-at_two z x y = (z 0 0 *ℤ (x *ℤ x) +ℤ z 0 1 *ℤ (x *ℤ y)) +ℤ (z 1 0 *ℤ (y *ℤ x) +ℤ z 1 1 *ℤ (y *ℤ y))
-
-form_two : (z : Matrix) (a b : ℕ) → form 2 z (coordinate (a ∷ b ∷ [])) ≡ at_two z (pos a) (pos b)
-unfolding bilinear sum_to sum_of
-form_two z a b = plain (z 0 0 *ℤ (pos a *ℤ pos a)) (z 0 1 *ℤ (pos a *ℤ pos b)) (z 1 0 *ℤ (pos b *ℤ pos a)) (z 1 1 *ℤ (pos b *ℤ pos b))
-  where
-    plain : (p q r s : ℤ) → (pos 0 +ℤ ((pos 0 +ℤ p) +ℤ q)) +ℤ ((pos 0 +ℤ r) +ℤ s) ≡ (p +ℤ q) +ℤ (r +ℤ s)
-    plain p q r s = omega (arith, ints)
 
 form_one : (z : Matrix) (a : ℕ) → form 1 z (coordinate (a ∷ [])) ≡ z 0 0 *ℤ (pos a *ℤ pos a)
 unfolding bilinear sum_to sum_of

@@ -1,13 +1,13 @@
 -- The columns of the linear program of a list of vectors: the sum of the first basis in the last column changes none of the others.
 use Rattle.std.specs.Prelude.{◌≡◌, ◌≢◌, ℕ, ◌+◌, ◌<◌, ◌≤◌, ◌⊎◌, pos, Bool, List, length}
 use Rattle.std.proofs.Common.{arith, sym, ◌∙◌, ap, inl, inr}
+use Rattle.commutative_ring.proofs.SmallCases.{same_or_not}
 use Rattle.exact_forms.specs.Rational.{Rational, whole, ◌*ℚ◌}
 use Rattle.exact_forms.specs.Coordinates.{Columns}
 use Rattle.exact_forms.specs.RankOne.{HasVectors, HasUnits}
 use Rattle.exact_forms.specs.Triangles.{triangle}
 use Rattle.exact_forms.proofs.Rational.{zero_mul_ℚ}
 use Rattle.exact_forms.proofs.RationalSums.{sum_ℚ_same}
-use Rattle.exact_forms.proofs.Slacks.{same_or_not}
 use Rattle.symmetric_matrix.specs.Symmetric.{Symmetric, entry}
 use Rattle.exact_linear.specs.Columns.{with_sum_of}
 use Rattle.exact_linear.specs.FirstBasis.{IsCombinationBelow, IsFirstBasis}
@@ -73,9 +73,19 @@ module _ (A : Columns) (f : Table) where
 
 -- the program whose columns are those of A, and the sum of the first basis as the last one
 pub program_of_vectors : (A : Columns) (f : Table) (low m rank : ℕ) (first : ℕ → ℕ) (chosen : ℕ → Bool) (vectors : List (List ℕ)) (s : Symmetric)
-    → A.size ≡ s.size → low ≡ triangle s.size → m ≡ length vectors → low + m + 2 ≡ A.count → AreUnitsAndVectors A low vectors → IsFirstBasis A low (low + m) chosen
+    → A.size ≡ s.size → low ≡ triangle s.size → m ≡ length vectors → low + m + 2 ≡ A.count → AreUnitsAndVectors A low vectors
+    → IsFirstBasis A low (low + m) chosen
     → ((i j : ℕ) → i < s.size → j < s.size → A.entry (low + m) i j ≡ whole (entry s i j))
-    → IsProgramOf (record { columns = with_sum_of A f; low = low; high = low + m; target = low + m; top = low + m + 1; rank = rank; first = first; chosen = chosen }) vectors s
+    → IsProgramOf (record {
+      columns = with_sum_of A f;
+      low = low;
+      high = low + m;
+      target = low + m;
+      top = low + m + 1;
+      rank = rank;
+      first = first;
+      chosen = chosen;
+    }) vectors s
 program_of_vectors A f low m rank first chosen vectors s size units count all U F target = record {
   size = size;
   low = units;

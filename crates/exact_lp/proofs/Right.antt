@@ -1,8 +1,10 @@
 -- The answer Outside is right.
-use Rattle.std.specs.Prelude.{◌≡◌, ◌≢◌, ℕ, ◌+◌, ◌<◌, ℤ, pos, negsuc, ◌≤ℤ◌, ◌<ℤ◌, ◌*ℤ◌, Bool, true, false, not, ◌||◌, List, [], ◌∷◌, ◌++◌, length, slice_index_or, None, if◌then◌else◌, nat_eq}
+use Rattle.std.specs.Prelude.{◌≡◌, ◌≢◌, ℕ, ◌+◌, ◌<◌, ℤ, pos, negsuc, ◌≤ℤ◌, ◌<ℤ◌, ◌*ℤ◌, Bool, true, false, ◌||◌, List, [], ◌∷◌, ◌++◌, length, slice_index_or}
+use Rattle.std.specs.Prelude.{None, if◌then◌else◌}
 use Rattle.std.proofs.Common.{arith, sym, ◌∙◌, ap, refl, subst, length-append}
 use Rattle.std.proofs.lemmas.Int.{ints}
 use Rattle.commutative_ring.proofs.Ring.{◌⊗◌, v0, v1, v2}
+use Rattle.commutative_ring.proofs.SmallCases.{not_false, test_of_apart}
 use Rattle.exact_forms.specs.Rational.{Rational, whole, ◌*ℚ◌, ◌/ℚ◌}
 use Rattle.exact_forms.specs.Sums.{sum_ℚ}
 use Rattle.exact_forms.specs.Signs.{IsNegative, IsNonnegative}
@@ -51,17 +53,23 @@ spread count m low w f h =
     ∙ sum_ℚ_same m _ _ (λ j lj. sym (mul-sum_ℚ (w j) count (λ k. mark (low + j) k *ℚ f k)) ∙ ap (λ x. w j *ℚ x) (sum_marked count f (low + j) (h j lj)))
 
 -- ---- where the row of t has no negative vector, a nonnegative combination is not negative there
-pub no_weights : (A : Columns) (t : Table) (m : ℕ) (w : ℕ → Rational) → IsReady A t m → is_inside t m ≡ false → entering t m ≡ None → ((j : ℕ) → j < m → IsNonnegative (w j))
+pub no_weights : (A : Columns) (t : Table) (m : ℕ) (w : ℕ → Rational) → IsReady A t m → is_inside t m ≡ false → entering t m ≡ None
+    → ((j : ℕ) → j < m → IsNonnegative (w j))
     → ((a b : ℕ) → a < A.size → b < A.size → sum_ℚ m (λ j. w j *ℚ A.entry (rows_of t + j) a b) ≡ A.entry (target t m) a b) → ⊥
 unfolding is_inside entering
 no_weights A t m w R h e nn sums =
-    negative_not_nonneg (H.coord (target t m) (top t m)) (subst IsNegative (at_top (target t m) (omega arith)) (negative_fact (table_entry t (top_row t m) (target t m)) (turned (is_negative (table_entry t (top_row t m) (target t m))) h)))
+    negative_not_nonneg (H.coord (target t m) (top t m))
+    (subst IsNegative (at_top (target t m) (omega arith))
+    (negative_fact (table_entry t (top_row t m) (target t m)) (not_false (is_negative (table_entry t (top_row t m) (target t m))) h)))
     (subst IsNonnegative (sym (
-    read_off A H.basis H.coord (λ k. sum_ℚ m (λ j. w j *ℚ mark (rows_of t + j) k)) (H.coord (target t m)) (A.entry (target t m)) H.is_basis (H.is_basis.written (target t m) (omega arith))
+    read_off A H.basis H.coord (λ k. sum_ℚ m (λ j. w j *ℚ mark (rows_of t + j) k)) (H.coord (target t m)) (A.entry (target t m)) H.is_basis
+    (H.is_basis.written (target t m) (omega arith))
     (λ a b la lb. spread A.count m (rows_of t) w (λ k. A.entry k a b) (λ j lj. within j lj) ∙ sums a b la lb) (top t m) (omega arith)
     ∙ spread A.count m (rows_of t) w (λ k. H.coord k (top t m)) (λ j lj. within j lj)))
     (total_nonneg m (λ j. w j *ℚ H.coord (rows_of t + j) (top t m)) (λ j lj. nonneg_product (w j) (H.coord (rows_of t + j) (top t m)) (nn j lj)
-    (subst IsNonnegative (at_top (rows_of t + j) (within j lj)) (not_negative_fact (table_entry t (top_row t m) (rows_of t + j)) (first_none (goes_down t m) (rows_of t) m e (rows_of t + j) (omega arith) (omega arith)))))))
+    (subst IsNonnegative (at_top (rows_of t + j) (within j lj))
+    (not_negative_fact (table_entry t (top_row t m) (rows_of t + j))
+    (first_none (goes_down t m) (rows_of t) m e (rows_of t + j) (omega arith) (omega arith)))))))
   where
     H : HasCoordinates A t
     H = R.good.coordinates
@@ -72,10 +80,6 @@ no_weights A t m w R h e nn sums =
     within : (j : ℕ) → j < m → rows_of t + j < A.count
     within j l = let s = size in omega arith
 
-    turned : (b : Bool) → not b ≡ false → b ≡ true
-    turned true h = refl
-    turned false h = absurd cc
-
     at_top : (j : ℕ) → j < A.count → table_entry t (top_row t m) j ≡ H.coord j (top t m)
     at_top j l = let r = top_row_is A t m R in H.shown.entry (top_row t m) j r.0 l ∙ ap (H.coord j) r.1
 
@@ -85,10 +89,7 @@ all_columns vectors s d = with_sum_of (columns_of s.size (squares vectors ++ s �
 
 -- ---- the answer
 pub other_column : (A : Columns) (t : Table) (j a b : ℕ) → j + 1 ≢ A.count → (with_sum_of A t).entry j a b ≡ A.entry j a b
-other_column A t j a b n = ap (λ (x : Bool). if x then sum_ℚ (rows_of t) (λ i. A.entry (basic_at t i) a b) else A.entry j a b) (not_equal (j + 1) A.count n)
-  where
-    not_equal : (j n : ℕ) → j ≢ n → nat_eq j n ≡ false
-    not_equal j n h = grind arith
+other_column A t j a b n = ap (λ (x : Bool). if x then sum_ℚ (rows_of t) (λ i. A.entry (basic_at t i) a b) else A.entry j a b) (test_of_apart (j + 1) A.count n)
 
 abbrev pub start_columns : List (List ℕ) → Symmetric → Columns
 start_columns vectors s = columns_of s.size (squares vectors ++ s ∷ [])
@@ -100,13 +101,15 @@ low_of s = triangle s.size
 pub count_is : (vectors : List (List ℕ)) (s : Symmetric) → (start_columns vectors s).count ≡ low_of s + length vectors + 2
 count_is vectors s = let a = length-append (squares vectors) (s ∷ []) in let b = length-squares vectors in omega arith
 
-pub vector_entry_is : (vectors : List (List ℕ)) (s : Symmetric) (d : ℤ) (j a b : ℕ) → j < length vectors → length (slice_index_or vectors j []) ≡ s.size → a < s.size → b < s.size
+pub vector_entry_is : (vectors : List (List ℕ)) (s : Symmetric) (d : ℤ) (j a b : ℕ) → j < length vectors → length (slice_index_or vectors j []) ≡ s.size
+    → a < s.size → b < s.size
     → (all_columns vectors s d).entry (low_of s + j) a b ≡ whole (coordinate (slice_index_or vectors j []) a *ℤ coordinate (slice_index_or vectors j []) b)
 vector_entry_is vectors s d j a b lj size la lb =
     other_column (start_columns vectors s) (first_table (problem_of vectors s d)) (low_of s + j) a b (let c = count_is vectors s in omega arith)
     ∙ vector_column s.size vectors (s ∷ []) j a b lj size la lb
 
-pub target_entry_is : (vectors : List (List ℕ)) (s : Symmetric) (d : ℤ) (a b : ℕ) → (all_columns vectors s d).entry (low_of s + length vectors) a b ≡ whole (entry s a b)
+pub target_entry_is : (vectors : List (List ℕ)) (s : Symmetric) (d : ℤ) (a b : ℕ)
+    → (all_columns vectors s d).entry (low_of s + length vectors) a b ≡ whole (entry s a b)
 target_entry_is vectors s d a b =
     other_column (start_columns vectors s) (first_table (problem_of vectors s d)) (low_of s + length vectors) a b (let c = count_is vectors s in omega arith)
     ∙ target_column s.size vectors s a b
@@ -119,14 +122,17 @@ not_inside p k h = by (is_settled_first p) (is_inside (table_after p k) p.vector
     by true y h = absurd cc
     by false y h = h
 
-pub outside_right : (vectors : List (List ℕ)) (s : Symmetric) (d : ℤ) (t : Table) (c : ℕ → Rational) → pos 1 ≤ℤ d → ((k : ℕ) → k < length vectors → length (slice_index_or vectors k []) ≡ s.size)
-    → IsReady (all_columns vectors s d) t (length vectors) → is_inside t (length vectors) ≡ false → entering t (length vectors) ≡ None → AreWeights s.size vectors s d c → ⊥
+pub outside_right : (vectors : List (List ℕ)) (s : Symmetric) (d : ℤ) (t : Table) (c : ℕ → Rational) → pos 1 ≤ℤ d
+    → ((k : ℕ) → k < length vectors → length (slice_index_or vectors k []) ≡ s.size)
+    → IsReady (all_columns vectors s d) t (length vectors) → is_inside t (length vectors) ≡ false → entering t (length vectors) ≡ None
+    → AreWeights s.size vectors s d c → ⊥
 outside_right vectors s d t c hd sizes R last none W =
     no_weights A t (length vectors) (λ j. whole d *ℚ c j) R last none
     (λ j l. nonneg_product (whole d) (c j) (positive_nonneg (whole d) (whole_positive d hd)) (W.nonnegative j l))
     (λ a b la lb.
     sum_ℚ_same (length vectors) _ _ (λ j lj. ap (λ x. (whole d *ℚ c j) *ℚ x) (vector_entry j a b lj la lb)
-    ∙ ring_ℚ (whole d ∷ c j ∷ whole (coordinate (slice_index_or vectors j []) a *ℤ coordinate (slice_index_or vectors j []) b) ∷ []) ((v0 ⊗ v1) ⊗ v2) (v0 ⊗ (v1 ⊗ v2)) refl)
+    ∙ ring_ℚ (whole d ∷ c j ∷ whole (coordinate (slice_index_or vectors j []) a *ℤ coordinate (slice_index_or vectors j []) b) ∷ []) ((v0 ⊗ v1) ⊗ v2)
+    (v0 ⊗ (v1 ⊗ v2)) refl)
     ∙ sym (mul-sum_ℚ (whole d) (length vectors) (λ j. c j *ℚ whole (coordinate (slice_index_or vectors j []) a *ℤ coordinate (slice_index_or vectors j []) b)))
     ∙ ap (λ x. whole d *ℚ x) (sym (rank_one_sum_is vectors c a b) ∙ W.sum.sum a b la lb)
     ∙ ring_ℚ (whole d ∷ (whole (entry s a b) /ℚ whole d) ∷ []) (v0 ⊗ v1) (v1 ⊗ v0) refl
@@ -137,9 +143,11 @@ outside_right vectors s d t c hd sizes R last none W =
     A = all_columns vectors s d
 
     rows : rows_of t ≡ triangle s.size
-    rows = let w = R.width in let x = R.good.coordinates.width in let a = length-append (squares vectors) (s ∷ []) in let b = length-squares vectors in omega arith
+    rows = let w = R.width in let x = R.good.coordinates.width in let a = length-append (squares vectors) (s ∷ []) in let b = length-squares vectors in
+        omega arith
 
-    vector_entry : (j a b : ℕ) → j < length vectors → a < s.size → b < s.size → A.entry (rows_of t + j) a b ≡ whole (coordinate (slice_index_or vectors j []) a *ℤ coordinate (slice_index_or vectors j []) b)
+    vector_entry : (j a b : ℕ) → j < length vectors → a < s.size → b < s.size
+        → A.entry (rows_of t + j) a b ≡ whole (coordinate (slice_index_or vectors j []) a *ℤ coordinate (slice_index_or vectors j []) b)
     vector_entry j a b lj la lb = ap (λ (r : ℕ). A.entry (r + j) a b) rows ∙ vector_entry_is vectors s d j a b lj (sizes j lj) la lb
 
     target_entry : (a b : ℕ) → A.entry (target t (length vectors)) a b ≡ whole (entry s a b)

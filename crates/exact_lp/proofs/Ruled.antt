@@ -1,6 +1,7 @@
 -- The answers of the linear program are those of its rule, in coordinates.
 use Rattle.std.specs.Prelude.{◌≡◌, ℕ, zero, suc, ◌+◌, ◌<◌, ◌≤◌, ℤ, Bool, true, false, ◌||◌, ◌⊎◌, List, [], length, slice_index_or, if◌then◌else◌}
 use Rattle.std.proofs.Common.{arith, sym, ◌∙◌, ap, refl, subst, inl, inr}
+use Rattle.commutative_ring.proofs.SmallCases.{here_or_before}
 use Rattle.exact_forms.specs.Rational.{Rational, whole, ◌/ℚ◌}
 use Rattle.exact_forms.specs.Signs.{IsNonnegative}
 use Rattle.exact_forms.specs.Copositive.{IsPerfect}
@@ -11,12 +12,14 @@ use Rattle.exact_lp.specs.declared.placed.Exchange.{Exchange}
 use Rattle.exact_lp.specs.declared.placed.Placed.{Placed}
 use Rattle.exact_lp.specs.declared.placed.Placed.TheVariants.{Inside, Outside, Pivots, Wide, OutOfMemory}
 use Rattle.exact_lp.specs.Rule.{is_inside}
-use Rattle.exact_lp.specs.Placement.{Problem, first_table, firsts, table_after, is_settled_first, is_last, last_table, coefficient, steps_of, IsStepDue, IsRun, IsInsideAfter, IsOutsideAfter, IsRefusedAfter, IsPlaceAnswer, problem_of}
+use Rattle.exact_lp.specs.Placement.{Problem, first_table, firsts, table_after, is_settled_first, is_last, last_table, coefficient, steps_of, IsStepDue, IsRun}
+use Rattle.exact_lp.specs.Placement.{IsInsideAfter, IsOutsideAfter, IsRefusedAfter, IsPlaceAnswer, problem_of}
 use Rattle.exact_lp.specs.Program.{Program, IsProgram, EndsInside, EndsOutside, IsEntering, IsLeaving, IsNonnegativeProgram}
 use Rattle.exact_lp.specs.Simplex.{step_at, entering_column, leaving_column, basis_after, coordinates_after, IsSimplexOf, IsOutsideOf}
 use Rattle.exact_lp.specs.Weights.{weight_in}
 use Rattle.exact_lp.specs.Ruled.{IsInsideEnd, IsStepLeft, IsRuled}
-use Rattle.exact_lp.proofs.InsideAnswer.{the_basis, linear_program, start as start_of, least as least_of, open_basis, open_coord, is_linear_program, is_nonnegative_program, first_tableau, last_inside}
+use Rattle.exact_lp.proofs.InsideAnswer.{the_basis, linear_program, start as start_of, least as least_of, open_basis, open_coord, is_linear_program}
+use Rattle.exact_lp.proofs.InsideAnswer.{is_nonnegative_program, first_tableau, last_inside}
 use Rattle.exact_lp.proofs.InsideRight.{weights_at, coefficient_is, settled_nonneg, settled_coefficient}
 use Rattle.exact_lp.proofs.Opening.{IsLeastRow, place, at_basic, open_row, row_is, is_least_place}
 use Rattle.exact_lp.proofs.Right.{start_columns, low_of, count_is, not_inside}
@@ -26,9 +29,10 @@ use Rattle.exact_lp.proofs.Runs.{length-steps_of, step_is, simplex_run}
 use Rattle.exact_lp.proofs.Settled.{opened_top, opened_weight}
 use Rattle.exact_lp.proofs.Sound.{is_program_of}
 use Rattle.exact_lp.proofs.Tableaux.{IsTableau}
-use Rattle.exact_lp.proofs.TableFacts.{last_or_before, not_inside_fact}
+use Rattle.exact_lp.proofs.TableFacts.{not_inside_fact}
 
-module _ (vectors : List (List ℕ)) (s : Symmetric) (d : ℤ) (some : 1 ≤ s.size) (sizes : (k : ℕ) → k < length vectors → length (slice_index_or vectors k []) ≡ s.size) (perfect : IsPerfect s.size vectors) where
+module _ (vectors : List (List ℕ)) (s : Symmetric) (d : ℤ) (some : 1 ≤ s.size) (sizes : (k : ℕ) → k < length vectors
+    → length (slice_index_or vectors k []) ≡ s.size) (perfect : IsPerfect s.size vectors) where
   abbrev p : Problem
   p = problem_of vectors s d
 
@@ -118,7 +122,9 @@ module _ (vectors : List (List ℕ)) (s : Symmetric) (d : ℤ) (some : 1 ≤ s.s
       where
         by : (n : ℕ) → length steps ≡ n → n ≡ 0
         by zero e = refl
-        by (suc n) e = absurd (let a = (run.due 0 (omega arith)).not_last in let b : is_last p 0 ≡ true = ap (λ (b : Bool). b || is_inside (table_after p 0) (length vectors)) h in cc)
+        by (suc n) e =
+            absurd (let a = (run.due 0 (omega arith)).not_last in
+            let b : is_last p 0 ≡ true = ap (λ (b : Bool). b || is_inside (table_after p 0) (length vectors)) h in cc)
 
     first_after : is_settled_first p ≡ true → after ≡ coord
     unfolding coordinates_after
@@ -142,7 +148,8 @@ module _ (vectors : List (List ℕ)) (s : Symmetric) (d : ℤ) (some : 1 ≤ s.s
           ∙ ap (λ (b : Bool). coefficient (if b then first_table p else table_after p (length steps)) (length vectors) (firsts p) k /ℚ whole d) h
           ∙ ap (λ w. w /ℚ whole d)
           (settled_coefficient vectors s d some sizes perfect B (firsts p) k l
-          ∙ sym (opened_weight P start R (P.first least) first_within first_chosen (P.low + k) (let c = count_is vectors s in omega arith) (λ e. absurd (omega arith))));
+          ∙ sym (opened_weight P start R (P.first least) first_within first_chosen (P.low + k) (let c = count_is vectors s in
+          omega arith) (λ e. absurd (omega arith))));
     }
 
     weights_end : (found : List Rational) → IsInsideAfter p found (length steps) → IsInsideEnd P after (length vectors) d found
@@ -171,7 +178,7 @@ module _ (vectors : List (List ℕ)) (s : Symmetric) (d : ℤ) (some : 1 ≤ s.s
         }
       where
         all_due : (j : ℕ) → j < suc (length steps) → IsStepDue p j
-        all_due j l = by (last_or_before j (length steps) (omega arith))
+        all_due j l = by (here_or_before j (length steps) (omega arith))
           where
             by : ((j ≡ length steps) ⊎ (j < length steps)) → IsStepDue p j
             by (inl e) = subst (λ (j : ℕ). IsStepDue p j) (sym e) I.due
@@ -188,7 +195,8 @@ module _ (vectors : List (List ℕ)) (s : Symmetric) (d : ℤ) (some : 1 ≤ s.s
         same_coordinates : coordinates_after P coord (steps_of p (suc (length steps))) (length steps) ≡ after
         same_coordinates = coordinates_to P coord (steps_of p (suc (length steps))) steps (length steps) same
 
-    outside_case : (zeros : List ℕ) (vector : ℕ) → IsOutsideAfter p zeros vector (length steps) → (EndsOutside P after) × (IsOutsideOf P after_basis after zeros vector)
+    outside_case : (zeros : List ℕ) (vector : ℕ) → IsOutsideAfter p zeros vector (length steps)
+        → (EndsOutside P after) × (IsOutsideOf P after_basis after zeros vector)
     outside_case zeros vector I = (
       outside_end P p basis coord start R N T budget steps run zeros vector I,
       outside_named P p basis coord start R N T budget steps run zeros vector I,

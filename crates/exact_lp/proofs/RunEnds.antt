@@ -31,7 +31,8 @@ module _ (P : Program) (p : Problem) (B : ℕ → Bool) (coord start : ℕ → �
   -- the table after the steps shows the last state
   pub last_tableau : IsTableau P (table_after p (length steps)) p.vectors (firsts p) last_basis last_coordinates
   last_tableau =
-      subst (λ (xs : List Exchange). IsTableau P (table_after p (length steps)) p.vectors (firsts p) (basis_after P B xs (length steps)) (coordinates_after P coord xs (length steps)))
+      subst (λ (xs : List Exchange). IsTableau P (table_after p (length steps)) p.vectors (firsts p) (basis_after P B xs (length steps))
+      (coordinates_after P coord xs (length steps)))
       (sym run.are) (tableau_at P p B coord start R N (length steps) T run.due (length steps) (omega arith))
 
   pub inside_end : is_inside (table_after p (length steps)) p.vectors ≡ true → EndsInside P last_coordinates
@@ -39,12 +40,15 @@ module _ (P : Program) (p : Problem) (B : ℕ → Bool) (coord start : ℕ → �
 
   module _ (zeros : List ℕ) (vector : ℕ) (out : IsOutsideAfter p zeros vector (length steps)) where
     pub outside_end : EndsOutside P last_coordinates
-    outside_end = outside_fact P (table_after p (length steps)) p.vectors (firsts p) last_basis last_coordinates last_tableau out.none (not_inside p (length steps) out.not_last)
+    outside_end =
+        outside_fact P (table_after p (length steps)) p.vectors (firsts p) last_basis last_coordinates last_tableau out.none
+        (not_inside p (length steps) out.not_last)
 
     pub outside_named : IsOutsideOf P last_basis last_coordinates zeros vector
     outside_named =
         subst (λ (v : ℕ). IsOutsideOf P last_basis last_coordinates zeros v) (sym out.vector_is)
-        (subst (λ (zs : List ℕ). IsOutsideOf P last_basis last_coordinates zs (outside_vector (table_after p (length steps)) p.vectors (firsts p))) (sym out.zeros_are)
+        (subst (λ (zs : List ℕ). IsOutsideOf P last_basis last_coordinates zs (outside_vector (table_after p (length steps)) p.vectors (firsts p)))
+        (sym out.zeros_are)
         (outside_names P (table_after p (length steps)) p.vectors (firsts p) last_basis last_coordinates start last_tableau R))
 
     -- in the words of vectors

@@ -16,12 +16,17 @@ AreSameTo xs ys k = (j : ℕ) → j < k → step_at xs j ≡ step_at ys j
 pub basis_to : (P : Program) (B : ℕ → Bool) (xs ys : List Exchange) (k : ℕ) → AreSameTo xs ys k → basis_after P B xs k ≡ basis_after P B ys k
 unfolding basis_after
 basis_to P B xs ys zero h = refl
-basis_to P B xs ys (suc k) h = ap₂ (λ (C : ℕ → Bool) (x : Exchange). swapped C (P.low + x.leaving) (P.low + x.entering)) (basis_to P B xs ys k (λ j l. h j (omega arith))) (h k (omega arith))
+basis_to P B xs ys (suc k) h =
+    ap₂ (λ (C : ℕ → Bool) (x : Exchange). swapped C (P.low + x.leaving) (P.low + x.entering)) (basis_to P B xs ys k (λ j l. h j (omega arith)))
+    (h k (omega arith))
 
-pub coordinates_to : (P : Program) (coord : ℕ → ℕ → Rational) (xs ys : List Exchange) (k : ℕ) → AreSameTo xs ys k → coordinates_after P coord xs k ≡ coordinates_after P coord ys k
+pub coordinates_to : (P : Program) (coord : ℕ → ℕ → Rational) (xs ys : List Exchange) (k : ℕ) → AreSameTo xs ys k
+    → coordinates_after P coord xs k ≡ coordinates_after P coord ys k
 unfolding coordinates_after
 coordinates_to P coord xs ys zero h = refl
-coordinates_to P coord xs ys (suc k) h = ap₂ (λ (c : ℕ → ℕ → Rational) (x : Exchange). exchanged_coordinates c (P.low + x.leaving) (P.low + x.entering)) (coordinates_to P coord xs ys k (λ j l. h j (omega arith))) (h k (omega arith))
+coordinates_to P coord xs ys (suc k) h =
+    ap₂ (λ (c : ℕ → ℕ → Rational) (x : Exchange). exchanged_coordinates c (P.low + x.leaving) (P.low + x.entering))
+    (coordinates_to P coord xs ys k (λ j l. h j (omega arith))) (h k (omega arith))
 
 module _ (P : Program) (B : ℕ → Bool) (coord : ℕ → ℕ → Rational) (xs : List Exchange) (X : IsSimplexRun P B coord xs) (n : ℕ) (l : n ≤ length xs) where
   front : List Exchange
@@ -57,13 +62,18 @@ module _ (P : Program) (B : ℕ → Bool) (coord : ℕ → ℕ → Rational) (xs
         (subst (λ (x : Exchange). IsEntering P (coordinates_after P coord xs k) (P.low + x.entering)) (front_step k m) (X.enters k (omega arith)));
     leaves = λ k h.
         let m : k < n = omega (arith, size) in
-        subst (λ (c : ℕ → ℕ → Rational). IsLeaving P (basis_after P B (take n xs) k) c (entering_column P (take n xs) k) (leaving_column P (take n xs) k)) (c_is k (omega arith))
-        (subst (λ (C : ℕ → Bool). IsLeaving P C (coordinates_after P coord xs k) (entering_column P (take n xs) k) (leaving_column P (take n xs) k)) (B_is k (omega arith))
-        (subst (λ (x : Exchange). IsLeaving P (basis_after P B xs k) (coordinates_after P coord xs k) (P.low + x.entering) (P.low + x.leaving)) (front_step k m) (X.leaves k (omega arith))));
+        subst (λ (c : ℕ → ℕ → Rational). IsLeaving P (basis_after P B (take n xs) k) c (entering_column P (take n xs) k) (leaving_column P (take n xs) k))
+        (c_is k (omega arith))
+        (subst (λ (C : ℕ → Bool). IsLeaving P C (coordinates_after P coord xs k) (entering_column P (take n xs) k) (leaving_column P (take n xs) k))
+        (B_is k (omega arith))
+        (subst (λ (x : Exchange). IsLeaving P (basis_after P B xs k) (coordinates_after P coord xs k) (P.low + x.entering) (P.low + x.leaving)) (front_step k m)
+        (X.leaves k (omega arith))));
     grows = λ k h.
         let m : k < n = omega (arith, size) in
-        subst (λ (c : ℕ → ℕ → Rational). IsLexBelow (suc P.rank) (λ j. coordinates_after P coord (take n xs) k (order P j) P.top) (λ j. c (order P j) P.top)) (c_is (suc k) (omega arith))
-        (subst (λ (c : ℕ → ℕ → Rational). IsLexBelow (suc P.rank) (λ j. c (order P j) P.top) (λ j. coordinates_after P coord xs (suc k) (order P j) P.top)) (c_is k (omega arith)) (X.grows k (omega arith)));
+        subst (λ (c : ℕ → ℕ → Rational). IsLexBelow (suc P.rank) (λ j. coordinates_after P coord (take n xs) k (order P j) P.top) (λ j. c (order P j) P.top))
+        (c_is (suc k) (omega arith))
+        (subst (λ (c : ℕ → ℕ → Rational). IsLexBelow (suc P.rank) (λ j. c (order P j) P.top) (λ j. coordinates_after P coord xs (suc k) (order P j) P.top))
+        (c_is k (omega arith)) (X.grows k (omega arith)));
     once = λ i j h m.
         let b : j ≤ n = omega (arith, size) in
         subst (λ (C : ℕ → Bool). ((k : ℕ) → k < P.columns.count → basis_after P B (take n xs) i k ≡ C k) → ⊥) (B_is j b)

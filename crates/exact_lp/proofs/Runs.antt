@@ -2,6 +2,7 @@
 use Rattle.std.specs.Prelude.{◌≡◌, ℕ, zero, suc, ◌+◌, ◌-◌, ◌<◌, ◌≤◌, ◌⊎◌, Bool, true, List, [], ◌∷◌, ◌++◌, length, Option, Some, None}
 use Rattle.std.proofs.Common.{arith, sym, ◌∙◌, ap, refl, subst, inl, inr, length-append, get_or-append-add}
 use Rattle.std.proofs.Math.ListN.{get_or-append}
+use Rattle.commutative_ring.proofs.SmallCases.{here_or_before}
 use Rattle.exact_forms.specs.Rational.{Rational}
 use Rattle.exact_forms.specs.Coordinates.{swapped, exchanged_coordinates}
 use Rattle.exact_forms.specs.Lexicographic.{IsLexBelow}
@@ -17,7 +18,7 @@ use Rattle.exact_lp.proofs.Right.{not_inside}
 use Rattle.exact_lp.proofs.Stepping.{leaving_fact, leaving_there, step_tableau}
 use Rattle.exact_lp.proofs.Step.{step_grows}
 use Rattle.exact_lp.proofs.Tableaux.{IsTableau}
-use Rattle.exact_lp.proofs.TableFacts.{last_or_before, entering_fact, not_inside_fact}
+use Rattle.exact_lp.proofs.TableFacts.{entering_fact, not_inside_fact}
 
 -- ---- the list of the steps
 abbrev step_from : Problem → ℕ → Exchange
@@ -34,7 +35,7 @@ length-steps_of p (suc n) = let a = length-append (steps_of p n) (step_from p n 
 
 pub step_is : (p : Problem) (n k : ℕ) → k < n → step_at (steps_of p n) k ≡ step_from p k
 step_is p zero k l = absurd (omega arith)
-step_is p (suc n) k l = ap (λ (xs : List Exchange). step_at xs k) (steps_more p n) ∙ by (last_or_before k n (omega arith)) (step_is p n k)
+step_is p (suc n) k l = ap (λ (xs : List Exchange). step_at xs k) (steps_more p n) ∙ by (here_or_before k n (omega arith)) (step_is p n k)
   where
     by : ((k ≡ n) ⊎ (k < n)) → (k < n → step_at (steps_of p n) k ≡ step_from p k) → step_at (steps_of p n ++ step_from p n ∷ []) k ≡ step_from p k
     by (inr m) rec = get_or-append (steps_of p n) (step_from p n ∷ []) no_step k (let a = length-steps_of p n in omega arith) ∙ rec m
@@ -77,16 +78,20 @@ module _ (P : Program) (p : Problem) (B : ℕ → Bool) (coord start : ℕ → �
         record {
           vector = v.1;
           row = r.1;
-          enters = ap (λ (x : Exchange). P.low + x.entering) (step_is p n k l) ∙ ap (λ (o : Option ℕ). P.low + (or_zero o - rows_of (table_after p k))) v.1 ∙ (let s : P.low + (v.0 - rows_of (table_after p k)) ≡ v.0 = omega arith in s);
+          enters = ap (λ (x : Exchange). P.low + x.entering) (step_is p n k l) ∙ ap (λ (o : Option ℕ). P.low + (or_zero o - rows_of (table_after p k))) v.1
+              ∙ (let s : P.low + (v.0 - rows_of (table_after p k)) ≡ v.0 = omega arith in s);
           leaves = ap (λ (x : Exchange). P.low + x.leaving) (step_is p n k l)
-              ∙ ap (λ (o : Option ℕ). P.low + (basic_at (table_after p k) (or_zero (leaving (table_after p k) p.vectors (firsts p) (or_zero o))) - rows_of (table_after p k))) v.1
+              ∙ ap (λ (o : Option ℕ).
+              P.low + (basic_at (table_after p k) (or_zero (leaving (table_after p k) p.vectors (firsts p) (or_zero o))) - rows_of (table_after p k)))
+              v.1
               ∙ ap (λ (o : Option ℕ). P.low + (basic_at (table_after p k) (or_zero o) - rows_of (table_after p k))) r.1
               ∙ (let s : P.low + (basic_at (table_after p k) r.0 - rows_of (table_after p k)) ≡ basic_at (table_after p k) r.0 = omega arith in s);
         },
       )
 
   -- a row can leave
-  row_found : (k : ℕ) → ((e : ℕ) × (r : ℕ) × (IsStep P p (steps_of p n) k e r)) → (r : ℕ) × (leaving (table_after p k) p.vectors (firsts p) (or_zero (entering (table_after p k) p.vectors)) ≡ Some r)
+  row_found : (k : ℕ) → ((e : ℕ) × (r : ℕ) × (IsStep P p (steps_of p n) k e r))
+      → (r : ℕ) × (leaving (table_after p k) p.vectors (firsts p) (or_zero (entering (table_after p k) p.vectors)) ≡ Some r)
   row_found k s = (s.1, ap (λ (o : Option ℕ). leaving (table_after p k) p.vectors (firsts p) (or_zero o)) s.2.vector ∙ s.2.row)
 
   stepped_tableau : (k e r : ℕ) → IsTableau P (table_after p k) p.vectors (firsts p) (basis k) (coords k) → IsStep P p (steps_of p n) k e r
@@ -96,9 +101,11 @@ module _ (P : Program) (p : Problem) (B : ℕ → Bool) (coord start : ℕ → �
       let t : Table = table_after p k in
       let m : ℕ = p.vectors in
       let cs : List ℕ = firsts p in
-      subst (λ (x : ℕ). IsTableau P (stepped t m cs x) m cs (swapped (basis k) (leaving_column P (steps_of p n) k) (entering_column P (steps_of p n) k)) (exchanged_coordinates (coords k) (leaving_column P (steps_of p n) k) (entering_column P (steps_of p n) k)))
+      subst (λ (x : ℕ). IsTableau P (stepped t m cs x) m cs (swapped (basis k) (leaving_column P (steps_of p n) k) (entering_column P (steps_of p n) k))
+      (exchanged_coordinates (coords k) (leaving_column P (steps_of p n) k) (entering_column P (steps_of p n) k)))
       (sym (ap or_zero W.vector))
-      (subst (λ (x : ℕ). IsTableau P (stepped t m cs e) m cs (swapped (basis k) x (entering_column P (steps_of p n) k)) (exchanged_coordinates (coords k) x (entering_column P (steps_of p n) k)))
+      (subst (λ (x : ℕ). IsTableau P (stepped t m cs e) m cs (swapped (basis k) x (entering_column P (steps_of p n) k))
+      (exchanged_coordinates (coords k) x (entering_column P (steps_of p n) k)))
       (sym W.leaves)
       (subst (λ (x : ℕ). IsTableau P (stepped t m cs e) m cs (swapped (basis k) (basic_at t r) x) (exchanged_coordinates (coords k) (basic_at t r) x))
       (sym W.enters)
@@ -130,19 +137,24 @@ module _ (P : Program) (p : Problem) (B : ℕ → Bool) (coord start : ℕ → �
       let s = step_there k l S in
       let E = entering_fact P (table_after p k) p.vectors (firsts p) (basis k) (coords k) S s.0 s.2.vector in
       subst (λ (e : ℕ). IsLeaving P (basis k) (coords k) e (leaving_column P (steps_of p n) k)) (sym s.2.enters)
-      (subst (λ (x : ℕ). IsLeaving P (basis k) (coords k) s.0 x) (sym s.2.leaves) (leaving_fact P (table_after p k) p.vectors (firsts p) (basis k) (coords k) start S R s.0 s.1 E s.2.row))
+      (subst (λ (x : ℕ). IsLeaving P (basis k) (coords k) s.0 x) (sym s.2.leaves)
+      (leaving_fact P (table_after p k) p.vectors (firsts p) (basis k) (coords k) start S R s.0 s.1 E s.2.row))
 
   grows_at : (k : ℕ) → k < n → IsLexBelow (suc P.rank) (λ j. coords k (order P j) P.top) (λ j. coords (suc k) (order P j) P.top)
   unfolding coordinates_after
-  grows_at k l = step_grows P (basis k) (coords k) start R (tableau_at k (omega arith)).state (entering_column P (steps_of p n) k) (leaving_column P (steps_of p n) k) (enters_at k l) (leaves_at k l)
+  grows_at k l =
+      step_grows P (basis k) (coords k) start R (tableau_at k (omega arith)).state (entering_column P (steps_of p n) k) (leaving_column P (steps_of p n) k)
+      (enters_at k l) (leaves_at k l)
 
   grown : (i j : ℕ) → i < j → j ≤ n → IsLexBelow (suc P.rank) (λ c. coords i (order P c) P.top) (λ c. coords j (order P c) P.top)
   grown i zero h l = absurd (omega arith)
-  grown i (suc j) h l = by (last_or_before i j (omega arith)) (λ m. grown i j m (omega arith))
+  grown i (suc j) h l = by (here_or_before i j (omega arith)) (λ m. grown i j m (omega arith))
     where
       by : ((i ≡ j) ⊎ (i < j)) → (i < j → IsLexBelow (suc P.rank) (λ c. coords i (order P c) P.top) (λ c. coords j (order P c) P.top))
           → IsLexBelow (suc P.rank) (λ c. coords i (order P c) P.top) (λ c. coords (suc j) (order P c) P.top)
-      by (inl e) rec = subst (λ (i : ℕ). IsLexBelow (suc P.rank) (λ c. coords i (order P c) P.top) (λ c. coords (suc j) (order P c) P.top)) (sym e) (grows_at j (omega arith))
+      by (inl e) rec =
+          subst (λ (i : ℕ). IsLexBelow (suc P.rank) (λ c. coords i (order P c) P.top) (λ c. coords (suc j) (order P c) P.top)) (sym e)
+          (grows_at j (omega arith))
       by (inr m) rec = lex_transitive (suc P.rank) _ _ _ (rec m) (grows_at j (omega arith))
 
   pub simplex_run : IsSimplexRun P B coord (steps_of p n)
@@ -150,10 +162,12 @@ module _ (P : Program) (p : Problem) (B : ℕ → Bool) (coord start : ℕ → �
       let size = length-steps_of p n in
       record {
         state = λ k l. (tableau_at k (omega arith)).state;
-        due = λ k l. not_inside_fact P (table_after p k) p.vectors (firsts p) (basis k) (coords k) (tableau_at k (omega arith)) (not_inside p k (due k (omega arith)).not_last);
+        due = λ k l. not_inside_fact P (table_after p k) p.vectors (firsts p) (basis k) (coords k) (tableau_at k (omega arith))
+            (not_inside p k (due k (omega arith)).not_last);
         enters = λ k l. enters_at k (omega arith);
         leaves = λ k l. leaves_at k (omega arith);
         grows = λ k l. grows_at k (omega arith);
         once = λ i j h l same.
-            grown_is_other P (basis i) (basis j) (coords i) (coords j) start R (tableau_at i (omega arith)).state.basis (tableau_at j (omega arith)).state.basis (grown i j h (omega arith)) same;
+            grown_is_other P (basis i) (basis j) (coords i) (coords j) start R (tableau_at i (omega arith)).state.basis (tableau_at j (omega arith)).state.basis
+            (grown i j h (omega arith)) same;
       }

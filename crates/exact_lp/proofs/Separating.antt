@@ -4,6 +4,7 @@ use Rattle.std.specs.List.{Contains}
 use Rattle.std.proofs.Common.{arith, sym, ◌∙◌, ap, subst, inl, inr, length-append, get_or-append-add}
 use Rattle.std.proofs.Math.ListN.{get_or-append}
 use Rattle.std.proofs.lemmas.List.{get_or-map, length-map}
+use Rattle.commutative_ring.proofs.SmallCases.{apart_ways, here_or_before}
 use Rattle.exact_forms.specs.Rational.{Rational, whole}
 use Rattle.exact_forms.specs.Signs.{IsPositive}
 use Rattle.exact_forms.specs.Slacks.{replaced}
@@ -23,7 +24,6 @@ use Rattle.exact_linear.specs.Squares.{name_at, vector_at, named}
 use Rattle.exact_lp.specs.Program.{Program, IsProgram, EndsOutside, IsState}
 use Rattle.exact_lp.specs.OfVectors.{IsProgramOf}
 use Rattle.exact_lp.specs.Simplex.{IsOutsideOf}
-use Rattle.exact_lp.proofs.TableFacts.{last_or_before}
 use Rattle.exact_linear.specs.Separation.{IsSeparating}
 
 -- ---- a name at the end of a list
@@ -33,7 +33,9 @@ name_before names v i l = get_or-append names (v ∷ []) 0 i l
 name_last : (names : List ℕ) (v i : ℕ) → i ≡ length names → name_at (names ++ v ∷ []) i ≡ v
 name_last names v i e = ap (name_at (names ++ v ∷ [])) (let s : i ≡ length names + 0 = omega arith in s) ∙ get_or-append-add names (v ∷ []) 0 0
 
-module _ (P : Program) (B : ℕ → Bool) (coord start : ℕ → ℕ → Rational) (R : IsProgram P start) (H : IsState P B coord) (O : EndsOutside P coord) (vectors : List (List ℕ)) (s : Symmetric) (V : IsProgramOf P vectors s)
+module _ (P : Program) (B : ℕ → Bool) (coord start : ℕ → ℕ
+    → Rational) (R : IsProgram P start) (H : IsState P B coord) (O : EndsOutside P coord) (vectors : List (List ℕ)) (s : Symmetric)
+    (V : IsProgramOf P vectors s)
     (zeros : List ℕ) (leaving : ℕ) (Z : IsOutsideOf P B coord zeros leaving) where
   zero_within : (i : ℕ) → i < length zeros → name_at zeros i < length vectors
   zero_within i l = let a = Z.vectors i l in let b = V.high in omega arith
@@ -52,7 +54,7 @@ module _ (P : Program) (B : ℕ → Bool) (coord start : ℕ → ℕ → Rationa
   names_length = length-map names (vector_at vectors) ∙ length-append zeros (leaving ∷ [])
 
   name_within : (i : ℕ) → i < length zeros + 1 → name_at names i < length vectors
-  name_within i l = by (last_or_before i (length zeros) l)
+  name_within i l = by (here_or_before i (length zeros) l)
     where
       by : ((i ≡ length zeros) ⊎ (i < length zeros)) → name_at names i < length vectors
       by (inl e) = let n = name_last zeros leaving i e in let w = vector_within in omega arith
@@ -65,17 +67,15 @@ module _ (P : Program) (B : ℕ → Bool) (coord start : ℕ → ℕ → Rationa
       ∙ Z.basic i l
 
   column_basic : (i : ℕ) → i < length zeros + 1 → swapped B P.top (P.low + leaving) (P.low + name_at names i) ≡ true
-  column_basic i l = by (last_or_before i (length zeros) l)
+  column_basic i l = by (here_or_before i (length zeros) l)
     where
       by : ((i ≡ length zeros) ⊎ (i < length zeros)) → swapped B P.top (P.low + leaving) (P.low + name_at names i) ≡ true
-      by (inl e) = replaced_here (replaced B P.top false) (P.low + leaving) true (P.low + name_at names i) (ap (λ (v : ℕ). P.low + v) (name_last zeros leaving i e))
+      by (inl e) = replaced_here (replaced B P.top false) (P.low + leaving) true (P.low + name_at names i)
+          (ap (λ (v : ℕ). P.low + v) (name_last zeros leaving i e))
       by (inr m) = ap (λ (v : ℕ). swapped B P.top (P.low + leaving) (P.low + v)) (name_before zeros leaving i m) ∙ kept_basic i m
 
-  three_ways : (i j : ℕ) → i ≢ j → (i < j) ⊎ (j < i)
-  three_ways i j n = grind arith
-
   names_apart : (i j : ℕ) → i < j → j < length zeros + 1 → name_at names i ≢ name_at names j
-  names_apart i j h l e = by (last_or_before j (length zeros) l)
+  names_apart i j h l e = by (here_or_before j (length zeros) l)
     where
       before : name_at names i ≡ name_at zeros i
       before = name_before zeros leaving i (omega arith)
@@ -85,7 +85,7 @@ module _ (P : Program) (B : ℕ → Bool) (coord start : ℕ → ℕ → Rationa
       by (inr m) = let n = name_before zeros leaving j m in let less = Z.increasing i j h m in let b = before in omega arith
 
   columns_apart : (i j : ℕ) → i < length zeros + 1 → j < length zeros + 1 → i ≢ j → P.low + name_at names i ≢ P.low + name_at names j
-  columns_apart i j li lj n e = by (three_ways i j n)
+  columns_apart i j li lj n e = by (apart_ways i j n)
     where
       by : ((i < j) ⊎ (j < i)) → ⊥
       by (inl l) = names_apart i j l lj (omega arith)
@@ -123,12 +123,14 @@ module _ (P : Program) (B : ℕ → Bool) (coord start : ℕ → ℕ → Rationa
 
   ray_extreme : (r : Matrix) → IsRay P.columns.size (named vectors zeros) (vector_at vectors leaving) r → IsExtremeRay P.columns.size r vectors
   ray_extreme r Y =
-      outside_extreme P.columns B coord H.basis P.top R.top_within P.low vectors V.has_vectors basic_vector r (named vectors zeros) leaving Y vector_within listed coordinate_positive V.units
+      outside_extreme P.columns B coord H.basis P.top R.top_within P.low vectors V.has_vectors basic_vector r (named vectors zeros) leaving Y vector_within
+      listed coordinate_positive V.units
       (λ k l. O.none (P.low + k) (omega arith) (let a = V.high in omega arith))
 
   ray_separates : (r : Matrix) → IsRay P.columns.size (named vectors zeros) (vector_at vectors leaving) r → inner P.columns.size r (entry s) <ℤ pos 0
   ray_separates r Y =
-      ray_value_negative P.columns B coord H.basis P.top R.top_within P.low vectors V.has_vectors basic_vector r (named vectors zeros) leaving Y vector_within listed coordinate_positive (entry s) P.target R.target_within
+      ray_value_negative P.columns B coord H.basis P.top R.top_within P.low vectors V.has_vectors basic_vector r (named vectors zeros) leaving Y vector_within
+      listed coordinate_positive (entry s) P.target R.target_within
       (λ i j li lj. V.target i j (let z = V.size in omega arith) (let z = V.size in omega arith))
       ((negative_opposite (coord P.target P.top)).0 O.here)
 

@@ -2,13 +2,14 @@
 use Rattle.std.specs.Prelude.{◌≡◌, ◌≢◌, ℕ, ◌<◌, ◌⊎◌, pos, true, false, cond, List, [], ◌∷◌}
 use Rattle.std.proofs.Common.{arith, sym, ◌∙◌, ap, ap₂, refl, subst, inl, inr}
 use Rattle.commutative_ring.proofs.Ring.{num, ◌⊕◌, ◌⊗◌, neg, v0, v1}
+use Rattle.commutative_ring.proofs.SmallCases.{true_or_false}
 use Rattle.exact_forms.specs.Rational.{Rational, whole, ◌+ℚ◌, ◌*ℚ◌, neg_ℚ}
 use Rattle.exact_forms.specs.Signs.{IsNonnegative}
 use Rattle.exact_forms.specs.Coordinates.{mark, exchanged_coordinates}
 use Rattle.exact_forms.proofs.Rational.{ring_ℚ}
 use Rattle.exact_forms.proofs.Slacks.{replaced_here, replaced_other}
 use Rattle.exact_forms.proofs.Signs.{negative_not_nonneg}
-use Rattle.exact_forms.proofs.Coordinates.{mark_off, true_or_false}
+use Rattle.exact_forms.proofs.Coordinates.{mark_off}
 use Rattle.exact_linear.proofs.Exchanges.{by_one}
 use Rattle.symmetric_matrix.specs.Symmetric.{Symmetric}
 use Rattle.exact_lp.specs.declared.placed.Exchange.{Exchange}
@@ -52,7 +53,8 @@ module _ (P : Program) (start : ℕ → ℕ → Rational) (R : IsProgram P start
           ap₂ (λ v w. v +ℚ w) (at k (whole (pos 0)) (whole (pos 1)) off (top_at_chosen P start R k l c)) (ap (λ b. cond b (start P.target r) (whole (pos 0))) c)
           ∙ ring_ℚ (start P.target k ∷ start P.target r ∷ []) ((v0 ⊕ v1 ⊗ (num (pos 0) ⊕ neg (num (pos 1)))) ⊕ v1) v0 refl
       by (inr c) =
-          ap₂ (λ v w. v +ℚ w) (at k (whole (pos 0)) (whole (pos 0)) off ((R.basis.written P.top R.top_within).outside k l c)) (ap (λ b. cond b (start P.target r) (whole (pos 0))) c)
+          ap₂ (λ v w. v +ℚ w) (at k (whole (pos 0)) (whole (pos 0)) off ((R.basis.written P.top R.top_within).outside k l c))
+          (ap (λ b. cond b (start P.target r) (whole (pos 0))) c)
           ∙ ring_ℚ (start P.target k ∷ start P.target r ∷ []) ((v0 ⊕ v1 ⊗ (num (pos 0) ⊕ neg (num (pos 0)))) ⊕ num (pos 0)) v0 refl
 
 -- ---- the coordinates of S over the first basis are at least 0

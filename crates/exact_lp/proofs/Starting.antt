@@ -17,9 +17,11 @@ pub record IsStart (t : Table) (m : ℕ) : Type 0 where
   pub row : 1 ≤ rows_of t
   pub units : (i : ℕ) → i < rows_of t → basic_at t i < rows_of t
 
-pub start_is : (vectors : List (List ℕ)) (s : Symmetric) (t : Table) → 1 ≤ s.size → t ≡ start_table s.size (squares vectors ++ s ∷ []) → IsStart t (length vectors)
+pub start_is : (vectors : List (List ℕ)) (s : Symmetric) (t : Table) → 1 ≤ s.size → t ≡ start_table s.size (squares vectors ++ s ∷ [])
+    → IsStart t (length vectors)
 start_is vectors s t h e = subst (λ (t : Table). IsStart t (length vectors)) (sym e) record {
-  width = let r = start_rows s.size (squares vectors ++ s ∷ []) in let a = length-append (squares vectors) (s ∷ []) in let b = length-squares vectors in omega arith;
+  width = let r = start_rows s.size (squares vectors ++ s ∷ []) in let a = length-append (squares vectors) (s ∷ []) in let b = length-squares vectors in
+      omega arith;
   row = let r = start_rows s.size (squares vectors ++ s ∷ []) in let u = some_units s.size h in omega arith;
   units = λ i l. let r = start_rows s.size (squares vectors ++ s ∷ []) in let b = start_basic s.size (squares vectors ++ s ∷ []) i (omega arith) in omega arith;
 }

@@ -1,12 +1,12 @@
 -- A step on a table is a step of the linear program.
 use Rattle.std.specs.Prelude.{◌≡◌, ◌≢◌, ℕ, zero, suc, ◌+◌, ◌<◌, ◌⊎◌, Bool, true, false, List, ◌∷◌, length, Option, Some, None, if◌then◌else◌}
 use Rattle.std.proofs.Common.{arith, sym, ◌∙◌, ap, refl, subst, inl, inr}
+use Rattle.commutative_ring.proofs.SmallCases.{here_or_before, same_or_not}
 use Rattle.exact_forms.specs.Rational.{Rational, ◌+ℚ◌, neg_ℚ}
 use Rattle.exact_forms.specs.Signs.{IsPositive}
 use Rattle.exact_forms.specs.Coordinates.{IsShown, swapped, exchanged_coordinates}
 use Rattle.exact_forms.specs.Lexicographic.{IsLexBelow}
 use Rattle.exact_forms.proofs.Shown.{exchange_shown}
-use Rattle.exact_forms.proofs.Slacks.{same_or_not}
 use Rattle.exact_linear.proofs.Rectangles.{exchanged_rectangle}
 use Rattle.exact_linear.specs.Tables.{Table, rows_of, table_entry, basic_at}
 use Rattle.exact_linear.specs.Exchange.{exchanged as exchanged_table}
@@ -17,14 +17,15 @@ use Rattle.exact_lp.specs.Placement.{leaving, stepped}
 use Rattle.exact_lp.proofs.Leaving.{lex_cases, lex_transitive, no_ties, has_candidate}
 use Rattle.exact_lp.proofs.Step.{entering_outside, step_keeps}
 use Rattle.exact_lp.proofs.Tableaux.{IsTableau}
-use Rattle.exact_lp.proofs.TableFacts.{last_or_before, quotients, beats_is, beats_not, vector_within, candidate_fact, candidate_row, quotients_are}
+use Rattle.exact_lp.proofs.TableFacts.{quotients, beats_is, beats_not, vector_within, candidate_fact, candidate_row, quotients_are}
 
 -- row b has the least list of the candidates before row i
 pub record IsBestRow (P : Program) (t : Table) (m : ℕ) (coord : ℕ → ℕ → Rational) (e b i : ℕ) : Type 0 where
   pub row : b < rows_of t
   pub before : b < i
   pub candidate : is_candidate t m e b ≡ true
-  pub least : (k : ℕ) → k < i → is_candidate t m e k ≡ true → k ≢ b → IsLexBelow (suc P.rank) (ratios P coord e (basic_at t b)) (ratios P coord e (basic_at t k))
+  pub least : (k : ℕ) → k < i → is_candidate t m e k ≡ true → k ≢ b
+      → IsLexBelow (suc P.rank) (ratios P coord e (basic_at t b)) (ratios P coord e (basic_at t k))
 
 abbrev pub IsBestBefore : Program → Table → ℕ → (ℕ → ℕ → Rational) → ℕ → Option ℕ → ℕ → Type 0
 IsBestBefore P t m coord e None i = (k : ℕ) → k < i → is_candidate t m e k ≡ false
@@ -42,33 +43,41 @@ pub stepped_is : (t : Table) (m : ℕ) (cs : List ℕ) (e r : ℕ) → leaving t
 unfolding stepped
 stepped_is t m cs e r h = ap (λ (o : Option ℕ). elim o as (λ _. Table) [ None ↦ t | Some r ↦ exchanged_table t r e ]) h
 
-module _ (P : Program) (t : Table) (m : ℕ) (cs : List ℕ) (B : ℕ → Bool) (coord start : ℕ → ℕ → Rational) (T : IsTableau P t m cs B coord) (R : IsProgram P start) where
+module _ (P : Program) (t : Table) (m : ℕ) (cs : List ℕ) (B : ℕ → Bool) (coord start : ℕ → ℕ
+    → Rational) (T : IsTableau P t m cs B coord) (R : IsProgram P start) where
   ranks_length : length (target t m ∷ cs) ≡ suc P.rank
   ranks_length = ap (λ (n : ℕ). suc n) T.rank
 
-  beats_fact : (e b i : ℕ) → e < P.columns.count → b < rows_of t → i < rows_of t → beats t e b i (target t m ∷ cs) ≡ true → IsLexBelow (suc P.rank) (ratios P coord e (basic_at t i)) (ratios P coord e (basic_at t b))
+  beats_fact : (e b i : ℕ) → e < P.columns.count → b < rows_of t → i < rows_of t → beats t e b i (target t m ∷ cs) ≡ true
+      → IsLexBelow (suc P.rank) (ratios P coord e (basic_at t i)) (ratios P coord e (basic_at t b))
   beats_fact e b i le lb li h =
-      lex_of (suc P.rank) _ _ _ _ (λ j l. quotients_are P t m cs B coord start T R e i j le li l) (λ j l. quotients_are P t m cs B coord start T R e b j le lb l)
-      (subst (λ (n : ℕ). IsLexBelow n (quotients t e i (target t m ∷ cs)) (quotients t e b (target t m ∷ cs))) ranks_length (beats_is t e b i (target t m ∷ cs) h))
+      lex_of (suc P.rank) _ _ _ _ (λ j l. quotients_are P t m cs B coord start T R e i j le li l)
+      (λ j l. quotients_are P t m cs B coord start T R e b j le lb l)
+      (subst (λ (n : ℕ). IsLexBelow n (quotients t e i (target t m ∷ cs)) (quotients t e b (target t m ∷ cs))) ranks_length
+      (beats_is t e b i (target t m ∷ cs) h))
 
   not_beats_fact : (e b i : ℕ) → e < P.columns.count → b < rows_of t → i < rows_of t → beats t e b i (target t m ∷ cs) ≡ false
       → IsLexBelow (suc P.rank) (ratios P coord e (basic_at t i)) (ratios P coord e (basic_at t b)) → ⊥
   not_beats_fact e b i le lb li h L =
       beats_not t e b i (target t m ∷ cs) h
       (subst (λ (n : ℕ). IsLexBelow n (quotients t e i (target t m ∷ cs)) (quotients t e b (target t m ∷ cs))) (sym ranks_length)
-      (lex_of (suc P.rank) _ _ _ _ (λ j l. sym (quotients_are P t m cs B coord start T R e i j le li l)) (λ j l. sym (quotients_are P t m cs B coord start T R e b j le lb l)) L))
+      (lex_of (suc P.rank) _ _ _ _ (λ j l. sym (quotients_are P t m cs B coord start T R e i j le li l))
+      (λ j l. sym (quotients_are P t m cs B coord start T R e b j le lb l)) L))
 
   -- a candidate that the best doesn't lose to
-  stays_best : (e b i : ℕ) → e < P.columns.count → b < rows_of t → i < rows_of t → b ≢ i → is_candidate t m e b ≡ true → is_candidate t m e i ≡ true → beats t e b i (target t m ∷ cs) ≡ false
+  stays_best : (e b i : ℕ) → e < P.columns.count → b < rows_of t → i < rows_of t → b ≢ i → is_candidate t m e b ≡ true → is_candidate t m e i ≡ true
+      → beats t e b i (target t m ∷ cs) ≡ false
       → IsLexBelow (suc P.rank) (ratios P coord e (basic_at t b)) (ratios P coord e (basic_at t i))
   stays_best e b i le lb li ne cb ci h = by (lex_cases (suc P.rank) (ratios P coord e (basic_at t b)) (ratios P coord e (basic_at t i)))
     where
       by : (IsLexBelow (suc P.rank) (ratios P coord e (basic_at t b)) (ratios P coord e (basic_at t i)))
-          ⊎ (((k : ℕ) → k < suc P.rank → ratios P coord e (basic_at t b) k ≡ ratios P coord e (basic_at t i) k) ⊎ (IsLexBelow (suc P.rank) (ratios P coord e (basic_at t i)) (ratios P coord e (basic_at t b))))
+          ⊎ (((k : ℕ) → k < suc P.rank → ratios P coord e (basic_at t b) k ≡ ratios P coord e (basic_at t i) k)
+          ⊎ (IsLexBelow (suc P.rank) (ratios P coord e (basic_at t i)) (ratios P coord e (basic_at t b))))
           → IsLexBelow (suc P.rank) (ratios P coord e (basic_at t b)) (ratios P coord e (basic_at t i))
       by (inl w) = w
       by (inr (inl s)) =
-          absurd (no_ties P B coord start R T.state e (basic_at t b) (basic_at t i) (candidate_fact P t m cs B coord T e b le lb cb) (candidate_fact P t m cs B coord T e i le li ci) (T.shown.apart b i lb li ne) s)
+          absurd (no_ties P B coord start R T.state e (basic_at t b) (basic_at t i) (candidate_fact P t m cs B coord T e b le lb cb)
+          (candidate_fact P t m cs B coord T e i le li ci) (T.shown.apart b i lb li ne) s)
       by (inr (inr w)) = absurd (not_beats_fact e b i le lb li h w)
 
   best_next : (e : ℕ) (best : Option ℕ) (i : ℕ) → e < P.columns.count → i < rows_of t → IsBestBefore P t m coord e best i
@@ -77,44 +86,58 @@ module _ (P : Program) (t : Table) (m : ℕ) (cs : List ℕ) (B : ℕ → Bool) 
     where
       by : (c : Bool) → is_candidate t m e i ≡ c → (best : Option ℕ) → IsBestBefore P t m coord e best i
           → IsBestBefore P t m coord e (if c then better t e (target t m ∷ cs) best i else best) (i + 1)
-      by false c None S = λ k l. each k (last_or_before k i l)
+      by false c None S = λ k l. each k (here_or_before k i l)
         where
           each : (k : ℕ) → ((k ≡ i) ⊎ (k < i)) → is_candidate t m e k ≡ false
           each k (inl s) = ap (λ (k : ℕ). is_candidate t m e k) s ∙ c
           each k (inr l) = S k l
-      by false c (Some b) S = record { row = S.row; before = let l = S.before in omega arith; candidate = S.candidate; least = λ k l d ne. each k d ne (last_or_before k i l) }
+      by false c (Some b) S =
+          record { row = S.row; before = let l = S.before in omega arith; candidate = S.candidate; least = λ k l d ne. each k d ne (here_or_before k i l) }
         where
-          each : (k : ℕ) → is_candidate t m e k ≡ true → k ≢ b → ((k ≡ i) ⊎ (k < i)) → IsLexBelow (suc P.rank) (ratios P coord e (basic_at t b)) (ratios P coord e (basic_at t k))
+          each : (k : ℕ) → is_candidate t m e k ≡ true → k ≢ b → ((k ≡ i) ⊎ (k < i))
+              → IsLexBelow (suc P.rank) (ratios P coord e (basic_at t b)) (ratios P coord e (basic_at t k))
           each k d ne (inl s) = absurd (let u : is_candidate t m e k ≡ false = ap (λ (k : ℕ). is_candidate t m e k) s ∙ c in cc)
           each k d ne (inr l) = S.least k l d ne
-      by true c None S = record { row = li; before = omega arith; candidate = c; least = λ k l d ne. each k d ne (last_or_before k i l) }
+      by true c None S = record { row = li; before = omega arith; candidate = c; least = λ k l d ne. each k d ne (here_or_before k i l) }
         where
-          each : (k : ℕ) → is_candidate t m e k ≡ true → k ≢ i → ((k ≡ i) ⊎ (k < i)) → IsLexBelow (suc P.rank) (ratios P coord e (basic_at t i)) (ratios P coord e (basic_at t k))
+          each : (k : ℕ) → is_candidate t m e k ≡ true → k ≢ i → ((k ≡ i) ⊎ (k < i))
+              → IsLexBelow (suc P.rank) (ratios P coord e (basic_at t i)) (ratios P coord e (basic_at t k))
           each k d ne (inl s) = absurd (ne s)
           each k d ne (inr l) = absurd (let u = S k l in cc)
       by true c (Some b) S = choose (beats t e b i (target t m ∷ cs)) refl
         where
-          new : beats t e b i (target t m ∷ cs) ≡ true → (k : ℕ) → is_candidate t m e k ≡ true → k ≢ i → ((k ≡ i) ⊎ (k < i)) → ((k ≡ b) ⊎ (k ≢ b)) → IsLexBelow (suc P.rank) (ratios P coord e (basic_at t i)) (ratios P coord e (basic_at t k))
+          new : beats t e b i (target t m ∷ cs) ≡ true → (k : ℕ) → is_candidate t m e k ≡ true → k ≢ i → ((k ≡ i) ⊎ (k < i)) → ((k ≡ b) ⊎ (k ≢ b))
+              → IsLexBelow (suc P.rank) (ratios P coord e (basic_at t i)) (ratios P coord e (basic_at t k))
           new w k d ne (inl s) t' = absurd (ne s)
-          new w k d ne (inr l) (inl s) = subst (λ (k : ℕ). IsLexBelow (suc P.rank) (ratios P coord e (basic_at t i)) (ratios P coord e (basic_at t k))) (sym s) (beats_fact e b i le S.row li w)
+          new w k d ne (inr l) (inl s) =
+              subst (λ (k : ℕ). IsLexBelow (suc P.rank) (ratios P coord e (basic_at t i)) (ratios P coord e (basic_at t k))) (sym s)
+              (beats_fact e b i le S.row li w)
           new w k d ne (inr l) (inr n) = lex_transitive (suc P.rank) _ _ _ (beats_fact e b i le S.row li w) (S.least k l d n)
 
-          kept : beats t e b i (target t m ∷ cs) ≡ false → (k : ℕ) → is_candidate t m e k ≡ true → k ≢ b → ((k ≡ i) ⊎ (k < i)) → IsLexBelow (suc P.rank) (ratios P coord e (basic_at t b)) (ratios P coord e (basic_at t k))
+          kept : beats t e b i (target t m ∷ cs) ≡ false → (k : ℕ) → is_candidate t m e k ≡ true → k ≢ b → ((k ≡ i) ⊎ (k < i))
+              → IsLexBelow (suc P.rank) (ratios P coord e (basic_at t b)) (ratios P coord e (basic_at t k))
           kept w k d ne (inl s) =
               subst (λ (k : ℕ). IsLexBelow (suc P.rank) (ratios P coord e (basic_at t b)) (ratios P coord e (basic_at t k))) (sym s)
               (stays_best e b i le S.row li (let l = S.before in λ s. absurd (omega arith)) S.candidate c w)
           kept w k d ne (inr l) = S.least k l d ne
 
           choose : (x : Bool) → beats t e b i (target t m ∷ cs) ≡ x → IsBestBefore P t m coord e (if x then Some i else Some b) (i + 1)
-          choose true w = record { row = li; before = omega arith; candidate = c; least = λ k l d ne. new w k d ne (last_or_before k i l) (same_or_not k b) }
-          choose false w = record { row = S.row; before = let l = S.before in omega arith; candidate = S.candidate; least = λ k l d ne. kept w k d ne (last_or_before k i l) }
+          choose true w = record { row = li; before = omega arith; candidate = c; least = λ k l d ne. new w k d ne (here_or_before k i l) (same_or_not k b) }
+          choose false w =
+              record {
+                row = S.row;
+                before = let l = S.before in omega arith;
+                candidate = S.candidate;
+                least = λ k l d ne. kept w k d ne (here_or_before k i l);
+              }
 
   leaving_best : (e : ℕ) (best : Option ℕ) (i n : ℕ) → e < P.columns.count → i + n ≡ rows_of t → IsBestBefore P t m coord e best i
       → IsBestBefore P t m coord e (leaving_row t m e (target t m ∷ cs) best i n) (rows_of t)
   unfolding leaving_row
   leaving_best e best i zero le h S = subst (λ (i : ℕ). IsBestBefore P t m coord e best i) (let s : i ≡ rows_of t = omega arith in s) S
   leaving_best e best i (suc n) le h S =
-      leaving_best e (if is_candidate t m e i then better t e (target t m ∷ cs) best i else best) (i + 1) n le (omega arith) (best_next e best i le (omega arith) S)
+      leaving_best e (if is_candidate t m e i then better t e (target t m ∷ cs) best i else best) (i + 1) n le (omega arith)
+      (best_next e best i le (omega arith) S)
 
   best_of_all : (e : ℕ) → e < P.columns.count → IsBestBefore P t m coord e (leaving t m cs e) (rows_of t)
   unfolding leaving
@@ -154,11 +177,14 @@ module _ (P : Program) (t : Table) (m : ℕ) (cs : List ℕ) (B : ℕ → Bool) 
 
   -- ---- the table after a step
   stepped_shown : (e r : ℕ) → IsEntering P coord e → r < rows_of t
-      → IsShown P.columns (swapped B (basic_at t r) e) (exchanged_coordinates coord (basic_at t r) e) (rows_of (exchanged_table t r e)) (table_entry (exchanged_table t r e)) (basic_at (exchanged_table t r e))
+      → IsShown P.columns (swapped B (basic_at t r) e) (exchanged_coordinates coord (basic_at t r) e) (rows_of (exchanged_table t r e))
+      (table_entry (exchanged_table t r e)) (basic_at (exchanged_table t r e))
   stepped_shown e r E lr =
       let le : e < P.columns.count = entering_within e E in
-      subst (λ (n : ℕ). IsShown P.columns (swapped B (basic_at t r) e) (exchanged_coordinates coord (basic_at t r) e) n (table_entry (exchanged_table t r e)) (basic_at (exchanged_table t r e))) (sym (exchanged_rows t r e))
-      (exchange_shown P.columns B coord (rows_of t) (table_entry t) (basic_at t) T.state.basis T.shown r e lr le (entering_outside P B coord start R T.state e E) (table_entry (exchanged_table t r e)) (basic_at (exchanged_table t r e))
+      subst (λ (n : ℕ). IsShown P.columns (swapped B (basic_at t r) e) (exchanged_coordinates coord (basic_at t r) e) n (table_entry (exchanged_table t r e))
+      (basic_at (exchanged_table t r e))) (sym (exchanged_rows t r e))
+      (exchange_shown P.columns B coord (rows_of t) (table_entry t) (basic_at t) T.state.basis T.shown r e lr le
+      (entering_outside P B coord start R T.state e E) (table_entry (exchanged_table t r e)) (basic_at (exchanged_table t r e))
       (exchanged_is t P.columns.count r e T.rectangle T.count lr (let c = T.count in omega arith)))
 
   pub step_tableau : (e r : ℕ) → IsEntering P coord e → leaving t m cs e ≡ Some r

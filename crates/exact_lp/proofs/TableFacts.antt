@@ -1,5 +1,6 @@
 -- What the tests on a table say of the state that it shows.
-use Rattle.std.specs.Prelude.{◌≡◌, ◌≢◌, ℕ, zero, suc, ◌+◌, ◌<◌, ◌⊎◌, ℤ, pos, negsuc, ◌≤ℤ◌, Bool, true, false, not, ◌&&◌, List, [], ◌∷◌, length, nat_eq, nat_lt, slice_index_or, Some, None}
+use Rattle.std.specs.Prelude.{◌≡◌, ◌≢◌, ℕ, zero, suc, ◌<◌, ℤ, pos, negsuc, ◌≤ℤ◌, Bool, true, false, not, ◌&&◌, List, [], ◌∷◌, length, nat_eq, nat_lt}
+use Rattle.std.specs.Prelude.{slice_index_or, Some, None}
 use Rattle.std.specs.Ordering.{MatchOrdering}
 use Rattle.std.specs.declared.cmp.Ordering.{Ordering}
 use Rattle.std.specs.declared.cmp.Ordering.TheVariants.{Less, Equal, Greater}
@@ -7,6 +8,7 @@ use Rattle.std.proofs.Common.{arith, sym, ◌∙◌, ap, ap₂, refl, subst}
 use Rattle.std.proofs.lemmas.Int.{ints}
 use Rattle.exact_forms.specs.Rational.{Rational, ◌+ℚ◌, neg_ℚ, ◌<ℚ◌, ◌/ℚ◌}
 use Rattle.commutative_ring.proofs.Ring.{num, ◌⊕◌, neg, v0, v1}
+use Rattle.commutative_ring.proofs.SmallCases.{both_true, not_false, not_true}
 use Rattle.exact_forms.proofs.Rational.{ring_ℚ}
 use Rattle.exact_forms.proofs.RationalOrder.{lt-positive}
 use Rattle.exact_forms.proofs.Lexicographic.{lex_head, lex_difference}
@@ -22,11 +24,9 @@ use Rattle.exact_lp.specs.Program.{Program, order, IsProgram, EndsInside, EndsOu
 use Rattle.exact_lp.proofs.Meaning.{IsReady, top_row_is}
 use Rattle.exact_lp.proofs.Right.{negative_fact, not_negative_fact}
 use Rattle.exact_lp.proofs.Tableaux.{IsTableau}
+use Rattle.exact_lp.proofs.Within.{order_within}
 
 -- ---- numbers
-pub last_or_before : (k n : ℕ) → k < n + 1 → (k ≡ n) ⊎ (k < n)
-last_or_before k n l = grind arith
-
 pub positive_fact : (x : Rational) → is_positive x ≡ true → IsPositive x
 positive_fact x h = record { numerator = by x.num h }
   where
@@ -69,20 +69,23 @@ lex_tail n f g e h = by h.place h.within h.before h.there
 pub beats_is : (t : Table) (e b i : ℕ) (cs : List ℕ) → beats t e b i cs ≡ true → IsLexBelow (length cs) (quotients t e i cs) (quotients t e b cs)
 unfolding beats
 beats_is t e b i [] h = absurd cc
-beats_is t e b i (c ∷ cs) h = by (order_of (ratio_at t e i c) (ratio_at t e b c)) (order_of_ranks (ratio_at t e i c) (ratio_at t e b c) _ refl) h (beats_is t e b i cs)
+beats_is t e b i (c ∷ cs) h =
+    by (order_of (ratio_at t e i c) (ratio_at t e b c)) (order_of_ranks (ratio_at t e i c) (ratio_at t e b c) _ refl) h (beats_is t e b i cs)
   where
     by : (o : Ordering) → MatchOrdering o (ratio_at t e i c <ℚ ratio_at t e b c) (ratio_at t e i c ≡ ratio_at t e b c) (ratio_at t e b c <ℚ ratio_at t e i c)
         → elim o as (λ _. Bool) [ Less ↦ true | Equal ↦ beats t e b i cs | Greater ↦ false ] ≡ true
         → (beats t e b i cs ≡ true → IsLexBelow (length cs) (quotients t e i cs) (quotients t e b cs))
         → IsLexBelow (length (c ∷ cs)) (quotients t e i (c ∷ cs)) (quotients t e b (c ∷ cs))
-    by Less r h rec = record { place = 0; within = omega arith; before = λ k l. absurd (omega arith); there = (lt-positive (ratio_at t e i c) (ratio_at t e b c)).0 r }
+    by Less r h rec =
+        record { place = 0; within = omega arith; before = λ k l. absurd (omega arith); there = (lt-positive (ratio_at t e i c) (ratio_at t e b c)).0 r }
     by Equal r h rec = lex_later (length cs) (quotients t e i (c ∷ cs)) (quotients t e b (c ∷ cs)) r (rec h)
     by Greater r h rec = absurd cc
 
 pub beats_not : (t : Table) (e b i : ℕ) (cs : List ℕ) → beats t e b i cs ≡ false → IsLexBelow (length cs) (quotients t e i cs) (quotients t e b cs) → ⊥
 unfolding beats
 beats_not t e b i [] h w = let l = w.within in omega arith
-beats_not t e b i (c ∷ cs) h w = by (order_of (ratio_at t e i c) (ratio_at t e b c)) (order_of_ranks (ratio_at t e i c) (ratio_at t e b c) _ refl) h (beats_not t e b i cs)
+beats_not t e b i (c ∷ cs) h w =
+    by (order_of (ratio_at t e i c) (ratio_at t e b c)) (order_of_ranks (ratio_at t e i c) (ratio_at t e b c) _ refl) h (beats_not t e b i cs)
   where
     by : (o : Ordering) → MatchOrdering o (ratio_at t e i c <ℚ ratio_at t e b c) (ratio_at t e i c ≡ ratio_at t e b c) (ratio_at t e b c <ℚ ratio_at t e i c)
         → elim o as (λ _. Bool) [ Less ↦ true | Equal ↦ beats t e b i cs | Greater ↦ false ] ≡ false
@@ -95,10 +98,6 @@ beats_not t e b i (c ∷ cs) h w = by (order_of (ratio_at t e i c) (ratio_at t e
         (lex_head (suc (length cs)) _ (lex_difference (suc (length cs)) (quotients t e i (c ∷ cs)) (quotients t e b (c ∷ cs)) w)))
 
 -- ---- a candidate row
-both_true : (x y : Bool) → (x && y) ≡ true → (x ≡ true) × (y ≡ true)
-both_true true y h = (refl, h)
-both_true false y h = absurd cc
-
 not_same : (a b : ℕ) → not (nat_eq a b) ≡ true → a ≢ b
 not_same a b h e = grind arith
 
@@ -112,14 +111,6 @@ candidate_parts t m e i h =
 
 pub candidate_test : (t : Table) (m e i : ℕ) → basic_at t i ≢ top t m → IsPositive (table_entry t i e) → is_candidate t m e i ≡ true
 candidate_test t m e i n h = ap₂ (λ (x : Bool) (y : Bool). x && y) (is_other (basic_at t i) (top t m) n) (positive_test (table_entry t i e) h)
-
-turned : (b : Bool) → not b ≡ false → b ≡ true
-turned true h = refl
-turned false h = absurd cc
-
-turned_back : (b : Bool) → not b ≡ true → b ≡ false
-turned_back true h = absurd cc
-turned_back false h = refl
 
 module _ (P : Program) (t : Table) (m : ℕ) (cs : List ℕ) (B : ℕ → Bool) (coord : ℕ → ℕ → Rational) (T : IsTableau P t m cs B coord) where
   pub top_within : P.top < P.columns.count
@@ -135,7 +126,10 @@ module _ (P : Program) (t : Table) (m : ℕ) (cs : List ℕ) (B : ℕ → Bool) 
   ready =
       let i = T.shown.every P.top top_within T.state.has_top in
       record {
-        good = record { coordinates = record { basis = B; coord = coord; width = T.count; is_basis = T.state.basis; shown = T.shown }; rectangle = T.rectangle };
+        good = record {
+          coordinates = record { basis = B; coord = coord; width = T.count; is_basis = T.state.basis; shown = T.shown };
+          rectangle = T.rectangle;
+        };
         width = T.wide;
         row = T.row;
         top_is = (i.0, i.1, i.2 ∙ T.top_is);
@@ -150,11 +144,17 @@ module _ (P : Program) (t : Table) (m : ℕ) (cs : List ℕ) (B : ℕ → Bool) 
 
   pub inside_fact : is_inside t m ≡ true → EndsInside P coord
   unfolding is_inside
-  inside_fact h = record { here = subst IsNonnegative at_target (not_negative_fact (table_entry t (top_row t m) (target t m)) (turned_back (is_negative (table_entry t (top_row t m) (target t m))) h)) }
+  inside_fact h =
+      record {
+        here = subst IsNonnegative at_target
+            (not_negative_fact (table_entry t (top_row t m) (target t m)) (not_true (is_negative (table_entry t (top_row t m) (target t m))) h));
+      }
 
   pub not_inside_fact : is_inside t m ≡ false → IsNegative (coord P.target P.top)
   unfolding is_inside
-  not_inside_fact h = subst IsNegative at_target (negative_fact (table_entry t (top_row t m) (target t m)) (turned (is_negative (table_entry t (top_row t m) (target t m))) h))
+  not_inside_fact h =
+      subst IsNegative at_target
+      (negative_fact (table_entry t (top_row t m) (target t m)) (not_false (is_negative (table_entry t (top_row t m) (target t m))) h))
 
   pub entering_fact : (e : ℕ) → entering t m ≡ Some e → IsEntering P coord e
   unfolding entering
@@ -168,7 +168,8 @@ module _ (P : Program) (t : Table) (m : ℕ) (cs : List ℕ) (B : ℕ → Bool) 
         low = omega arith;
         high = omega arith;
         negative = subst IsNegative (at_top e (vector_within e (omega arith))) (negative_fact (table_entry t (top_row t m) e) f.passes);
-        first = λ k l u. subst IsNonnegative (at_top k (vector_within k (omega arith))) (not_negative_fact (table_entry t (top_row t m) k) (f.before k (omega arith) u));
+        first = λ k l u. subst IsNonnegative (at_top k (vector_within k (omega arith)))
+            (not_negative_fact (table_entry t (top_row t m) k) (f.before k (omega arith) u));
       }
 
   pub outside_fact : entering t m ≡ None → is_inside t m ≡ false → EndsOutside P coord
@@ -177,7 +178,8 @@ module _ (P : Program) (t : Table) (m : ℕ) (cs : List ℕ) (B : ℕ → Bool) 
     here = not_inside_fact n;
     none = λ k l u.
         subst IsNonnegative (at_top k (vector_within k u))
-        (not_negative_fact (table_entry t (top_row t m) k) (first_none (goes_down t m) (rows_of t) m h k (let a = T.low in omega arith) (let b = T.high in omega arith)));
+        (not_negative_fact (table_entry t (top_row t m) k) (first_none (goes_down t m) (rows_of t) m h k (let a = T.low in omega arith) (let b = T.high in
+        omega arith)));
   }
 
   -- ---- candidates
@@ -197,7 +199,8 @@ module _ (P : Program) (t : Table) (m : ℕ) (cs : List ℕ) (B : ℕ → Bool) 
         i.0,
         i.1,
         i.2,
-        candidate_test t m e i.0 (λ s. C.other (sym i.2 ∙ s ∙ sym T.top_is)) (subst IsPositive (ap (coord e) (sym i.2) ∙ sym (T.shown.entry i.0 e i.1 le)) C.positive),
+        candidate_test t m e i.0 (λ s. C.other (sym i.2 ∙ s ∙ sym T.top_is))
+            (subst IsPositive (ap (coord e) (sym i.2) ∙ sym (T.shown.entry i.0 e i.1 le)) C.positive),
       )
 
   -- the lists of a row and of its basic column
@@ -206,13 +209,10 @@ module _ (P : Program) (t : Table) (m : ℕ) (cs : List ℕ) (B : ℕ → Bool) 
   ranked zero l = sym T.target_is
   ranked (suc j) l = T.ranks j (omega arith)
 
-module _ (P : Program) (t : Table) (m : ℕ) (cs : List ℕ) (B : ℕ → Bool) (coord start : ℕ → ℕ → Rational) (T : IsTableau P t m cs B coord) (R : IsProgram P start) where
-  ranked_within : (j : ℕ) → j < suc P.rank → order P j < P.columns.count
-  unfolding order
-  ranked_within zero l = target_within P t m cs B coord T
-  ranked_within (suc j) l = vector_within P t m cs B coord T (P.first j) (R.first_is_vector j (omega arith)).1
-
-  pub quotients_are : (e i j : ℕ) → e < P.columns.count → i < rows_of t → j < suc P.rank → quotients t e i (target t m ∷ cs) j ≡ ratios P coord e (basic_at t i) j
+module _ (P : Program) (t : Table) (m : ℕ) (cs : List ℕ) (B : ℕ → Bool) (coord start : ℕ → ℕ
+    → Rational) (T : IsTableau P t m cs B coord) (R : IsProgram P start) where
+  pub quotients_are : (e i j : ℕ) → e < P.columns.count → i < rows_of t → j < suc P.rank
+      → quotients t e i (target t m ∷ cs) j ≡ ratios P coord e (basic_at t i) j
   quotients_are e i j le li lj =
       ap (λ (c : ℕ). ratio_at t e i c) (ranked P t m cs B coord T j lj)
-      ∙ ap₂ (λ x y. x /ℚ y) (T.shown.entry i (order P j) li (ranked_within j lj)) (T.shown.entry i e li le)
+      ∙ ap₂ (λ x y. x /ℚ y) (T.shown.entry i (order P j) li (order_within P start R j lj)) (T.shown.entry i e li le)

@@ -93,22 +93,26 @@ stepped t m firsts e = elim (leaving t m firsts e) as (λ _. Table) [ None ↦ t
 
 unfoldable pub step_ops : Table → ℕ → List ℕ → ℕ → List EntryOp
 step_ops t m firsts e =
-    leaving_ops t m e (ranks t m firsts) None 0 (rows_of t) ++ elim (leaving t m firsts e) as (λ _. List EntryOp) [ None ↦ [] | Some r ↦ exchange_ops t r e ]
+    leaving_ops t m e (ranks t m firsts) None 0 (rows_of t)
+    ++ elim (leaving t m firsts e) as (λ _. List EntryOp) [ None ↦ [] | Some r ↦ exchange_ops t r e ]
 
 unfoldable pub exchange_of : Table → ℕ → List ℕ → ℕ → Exchange
-exchange_of t m firsts e = record { entering = e - rows_of t; leaving = basic_at t (or_zero (leaving t m firsts e)) - rows_of t }
+exchange_of t m firsts e =
+    record { entering = e - rows_of t; leaving = basic_at t (or_zero (leaving t m firsts e)) - rows_of t }
 
 -- what the exchange at row r and column c answers, told as a step, with the table after it
 abbrev pub IsLeft : Table → ℕ → ℕ → Table → Result Exchange EntryOp → Type 0
 IsLeft t r c new (Err op) = first_owed entry_is_owed (exchange_ops t r c) ≡ Some op
 IsLeft t r c new (Ok made) =
-    (first_owed entry_is_owed (exchange_ops t r c) ≡ None) × ((made ≡ record { entering = c - rows_of t; leaving = basic_at t r - rows_of t }) × (new ≡ exchanged t r c))
+    (first_owed entry_is_owed (exchange_ops t r c) ≡ None)
+    × ((made ≡ record { entering = c - rows_of t; leaving = basic_at t r - rows_of t }) × (new ≡ exchanged t r c))
 
 -- what a step from the table t answers, with the table after it
 abbrev pub IsStepped : Table → ℕ → List ℕ → ℕ → Table → Result Exchange EntryOp → Type 0
 IsStepped t m firsts e new (Err op) = first_owed entry_is_owed (step_ops t m firsts e) ≡ Some op
 IsStepped t m firsts e new (Ok made) =
-    (first_owed entry_is_owed (step_ops t m firsts e) ≡ None) × ((made ≡ exchange_of t m firsts e) × (new ≡ stepped t m firsts e))
+    (first_owed entry_is_owed (step_ops t m firsts e) ≡ None)
+    × ((made ≡ exchange_of t m firsts e) × (new ≡ stepped t m firsts e))
 
 -- ---- the tables
 unfoldable pub opened : Table → ℕ → Table
@@ -126,7 +130,9 @@ is_settled_first p = is_settled (first_table p) p.vectors
 
 unfoldable pub steps_of : Problem → ℕ → List Exchange
 steps_of p zero = []
-steps_of p (suc k) = steps_of p k ++ exchange_of (table_after p k) p.vectors (firsts p) (or_zero (entering (table_after p k) p.vectors)) ∷ []
+steps_of p (suc k) =
+    steps_of p k ++ exchange_of (table_after p k) p.vectors (firsts p) (or_zero (entering (table_after p k) p.vectors))
+    ∷ []
 
 unfoldable pub is_last : Problem → ℕ → Bool
 is_last p k = is_settled_first p || is_inside (table_after p k) p.vectors
@@ -136,7 +142,8 @@ pub record IsStepDue (p : Problem) (k : ℕ) : Type 0 where
   pub vector : is_there (entering (table_after p k) p.vectors) ≡ true
 
 pub record HasLeavingRows (p : Problem) : Type 0 where
-  pub row : (k : ℕ) → ((j : ℕ) → j ≤ k → IsStepDue p j) → leaving (table_after p k) p.vectors (firsts p) (or_zero (entering (table_after p k) p.vectors)) ≢ None
+  pub row : (k : ℕ) → ((j : ℕ) → j ≤ k → IsStepDue p j)
+      → leaving (table_after p k) p.vectors (firsts p) (or_zero (entering (table_after p k) p.vectors)) ≢ None
 
 -- ---- the ends
 abbrev pub at_target : Table → ℕ → ℕ → Rational
@@ -148,11 +155,13 @@ is_raised t m firsts v = is_basic t (top t m) && contains firsts (rows_of t + v)
 
 unfoldable pub coefficient : Table → ℕ → List ℕ → ℕ → Rational
 coefficient t m firsts v =
-    if is_raised t m firsts v then at_target t m (rows_of t + v) +ℚ at_target t m (top t m) else at_target t m (rows_of t + v)
+    if is_raised t m firsts v then at_target t m (rows_of t + v) +ℚ at_target t m (top t m) else at_target t m
+    (rows_of t + v)
 
 unfoldable pub coefficient_ops : Table → ℕ → List ℕ → Rational → ℕ → List PlaceOp
 coefficient_ops t m firsts d v =
-    (if is_raised t m firsts v then map (Weight v) (add_ops (at_target t m (rows_of t + v)) (at_target t m (top t m))) else [])
+    (if is_raised t m firsts v then map (Weight v) (add_ops (at_target t m (rows_of t + v)) (at_target t m (top t m)))
+    else [])
     ++ map (Weight v) (div_ops (coefficient t m firsts v) d)
 
 -- from vector v on, n being left
@@ -182,16 +191,19 @@ outside_vector t m firsts = first_above t (top_row t m) firsts - rows_of t
 
 -- what the weights of a table answer
 abbrev pub IsWeightsAnswer : Table → ℕ → List ℕ → Rational → List Exchange → Placed → Type 0
-IsWeightsAnswer t m firsts d steps (Inside found made) = (made ≡ steps) × ((first_owed_in (weight_ops t m firsts d 0 m) ≡ None) × (found ≡ weights t m firsts d m))
+IsWeightsAnswer t m firsts d steps (Inside found made) =
+    (made ≡ steps) × ((first_owed_in (weight_ops t m firsts d 0 m) ≡ None) × (found ≡ weights t m firsts d m))
 IsWeightsAnswer t m firsts d steps (Outside zeros vector made) = ⊥
 IsWeightsAnswer t m firsts d steps (Pivots made) = ⊥
-IsWeightsAnswer t m firsts d steps (Wide op made) = (made ≡ steps) × (first_owed_in (weight_ops t m firsts d 0 m) ≡ Some op)
+IsWeightsAnswer t m firsts d steps (Wide op made) =
+    (made ≡ steps) × (first_owed_in (weight_ops t m firsts d 0 m) ≡ Some op)
 IsWeightsAnswer t m firsts d steps OutOfMemory = Unit {0}
 
 -- what the basis of a table answers
 abbrev pub IsOutsideAnswer : Table → ℕ → List ℕ → List Exchange → Placed → Type 0
 IsOutsideAnswer t m firsts steps (Inside found made) = ⊥
-IsOutsideAnswer t m firsts steps (Outside zeros vector made) = (made ≡ steps) × ((zeros ≡ zeros_of t m) × (vector ≡ outside_vector t m firsts))
+IsOutsideAnswer t m firsts steps (Outside zeros vector made) =
+    (made ≡ steps) × ((zeros ≡ zeros_of t m) × (vector ≡ outside_vector t m firsts))
 IsOutsideAnswer t m firsts steps (Pivots made) = ⊥
 IsOutsideAnswer t m firsts steps (Wide op made) = ⊥
 IsOutsideAnswer t m firsts steps OutOfMemory = Unit {0}
@@ -199,13 +211,15 @@ IsOutsideAnswer t m firsts steps OutOfMemory = Unit {0}
 -- ---- the operations
 unfoldable pub opening_ops : Problem → ℕ → List PlaceOp
 opening_ops p zero =
-    map Tableau (first_ops p.start p.vectors) ++ (if is_settled_first p then [] else map Tableau (opened_ops (first_table p) p.vectors))
+    map Tableau (first_ops p.start p.vectors)
+    ++ (if is_settled_first p then [] else map Tableau (opened_ops (first_table p) p.vectors))
 opening_ops p (suc k) = []
 
 unfoldable pub closing_ops : Problem → ℕ → List PlaceOp
 closing_ops p k =
     if is_last p k then weight_ops (last_table p k) p.vectors (firsts p) p.d 0 p.vectors
-    else elim (entering (table_after p k) p.vectors) as (λ _. List PlaceOp) [ None ↦ [] | Some e ↦ map Tableau (step_ops (table_after p k) p.vectors (firsts p) e) ]
+    else elim (entering (table_after p k) p.vectors) as (λ _. List PlaceOp)
+    [ None ↦ [] | Some e ↦ map Tableau (step_ops (table_after p k) p.vectors (firsts p) e) ]
 
 abbrev pub leg_ops : Problem → ℕ → List PlaceOp
 leg_ops p k = opening_ops p k ++ closing_ops p k
@@ -250,11 +264,13 @@ IsOwedAfter p budget op k = first_owed_in (ops_within p budget k) ≡ Some op
 
 abbrev pub IsPlaceAnswer : Problem → ℕ → Placed → Type 0
 IsPlaceAnswer p budget (Inside found steps) = IsRun p budget steps × IsInsideAfter p found (length steps)
-IsPlaceAnswer p budget (Outside zeros vector steps) = IsRun p budget steps × IsOutsideAfter p zeros vector (length steps)
+IsPlaceAnswer p budget (Outside zeros vector steps) =
+    IsRun p budget steps × IsOutsideAfter p zeros vector (length steps)
 IsPlaceAnswer p budget (Pivots steps) = IsRun p budget steps × IsRefusedAfter p budget (length steps)
 IsPlaceAnswer p budget (Wide op steps) = IsRun p budget steps × IsOwedAfter p budget op (length steps)
 IsPlaceAnswer p budget OutOfMemory = Unit {0}
 
 -- want of memory aside, whatever answer fits is the one that was given
 abbrev pub IsOnlyAnswer : Problem → ℕ → Placed → Type 0
-IsOnlyAnswer p budget answered = (a : Placed) → IsPlaceAnswer p budget a → (answered ≡ a) ⊎ ((answered ≡ OutOfMemory) ⊎ (a ≡ OutOfMemory))
+IsOnlyAnswer p budget answered = (a : Placed) → IsPlaceAnswer p budget a
+    → (answered ≡ a) ⊎ ((answered ≡ OutOfMemory) ⊎ (a ≡ OutOfMemory))

@@ -48,7 +48,8 @@ pub record IsProgram (P : Program) (coord : ℕ → ℕ → Rational) : Type 0 w
   pub first_is_chosen : (j : ℕ) → j < P.rank → P.chosen (P.first j) ≡ true
   pub chosen_is_first : (k : ℕ) → k < P.columns.count → P.chosen k ≡ true → (j : ℕ) × (j < P.rank) × (P.first j ≡ k)
   pub increasing : (i j : ℕ) → i < j → j < P.rank → P.first i < P.first j
-  pub top_is_sum : (a b : ℕ) → a < P.columns.size → b < P.columns.size → P.columns.entry P.top a b ≡ sum_ℚ P.rank (λ j. P.columns.entry (P.first j) a b)
+  pub top_is_sum : (a b : ℕ) → a < P.columns.size → b < P.columns.size
+      → P.columns.entry P.top a b ≡ sum_ℚ P.rank (λ j. P.columns.entry (P.first j) a b)
 
 pub record EndsInside (P : Program) (coord : ℕ → ℕ → Rational) : Type 0 where
   pub here : IsNonnegative (coord P.target P.top)
@@ -75,25 +76,30 @@ ratios P coord e k j = coord (order P j) k /ℚ coord e k
 
 pub record IsLeaving (P : Program) (B : ℕ → Bool) (coord : ℕ → ℕ → Rational) (e l : ℕ) : Type 0 where
   pub candidate : MayLeave P B coord e l
-  pub least : (k : ℕ) → MayLeave P B coord e k → k ≢ l → IsLexBelow (suc P.rank) (ratios P coord e l) (ratios P coord e k)
+  pub least : (k : ℕ) → MayLeave P B coord e k → k ≢ l
+      → IsLexBelow (suc P.rank) (ratios P coord e l) (ratios P coord e k)
 
 pub record IsState (P : Program) (B : ℕ → Bool) (coord : ℕ → ℕ → Rational) : Type 0 where
   pub basis : IsBasis P.columns B coord
   pub has_top : B P.top ≡ true
   pub vectors : (k : ℕ) → k < P.columns.count → B k ≡ true → k ≢ P.top → (P.low ≤ k) × (k < P.high)
-  pub positive : (k : ℕ) → k < P.columns.count → B k ≡ true → k ≢ P.top → IsLexPositive (suc P.rank) (λ j. coord (order P j) k)
+  pub positive : (k : ℕ) → k < P.columns.count → B k ≡ true → k ≢ P.top
+      → IsLexPositive (suc P.rank) (λ j. coord (order P j) k)
 
 -- the weight of column k in the answer Inside
 unfoldable pub weight : Program → (ℕ → ℕ → Rational) → ℕ → Rational
-weight P coord k = cond (eqb k P.top) (whole (pos 0)) (coord P.target k) +ℚ cond (P.chosen k) (coord P.target P.top) (whole (pos 0))
+weight P coord k =
+    cond (eqb k P.top) (whole (pos 0)) (coord P.target k) +ℚ cond (P.chosen k) (coord P.target P.top) (whole (pos 0))
 
 -- the place of the first basis at which t comes in: the least coordinate of the target, the last among equals
 pub record IsLeastPlace (P : Program) (coord : ℕ → ℕ → Rational) (i : ℕ) : Type 0 where
   pub within : i < P.rank
   pub least : (j : ℕ) → j < P.rank → IsNonnegative (coord P.target (P.first j) +ℚ neg_ℚ (coord P.target (P.first i)))
-  pub last : (j : ℕ) → i < j → j < P.rank → IsPositive (coord P.target (P.first j) +ℚ neg_ℚ (coord P.target (P.first i)))
+  pub last : (j : ℕ) → i < j → j < P.rank
+      → IsPositive (coord P.target (P.first j) +ℚ neg_ℚ (coord P.target (P.first i)))
 
 -- the entries of the vectors' columns and of t are at least 0
 pub record IsNonnegativeProgram (P : Program) : Type 0 where
-  pub vectors : (k a b : ℕ) → a < P.columns.size → b < P.columns.size → P.low ≤ k → k < P.high → IsNonnegative (P.columns.entry k a b)
+  pub vectors : (k a b : ℕ) → a < P.columns.size → b < P.columns.size → P.low ≤ k → k < P.high
+      → IsNonnegative (P.columns.entry k a b)
   pub top : (a b : ℕ) → a < P.columns.size → b < P.columns.size → IsNonnegative (P.columns.entry P.top a b)

@@ -58,7 +58,8 @@ is_settled t m = not (is_there (first_place (is_below t m) 0 (rows_of t)))
 -- row i has a lesser entry of the target than row b, or an equal one and a later vector
 unfoldable pub is_lower : Table → ℕ → ℕ → ℕ → Bool
 is_lower t m b i =
-    elim (order_of (table_entry t i (target t m)) (table_entry t b (target t m))) as (λ _. Bool) [ Less ↦ true | Equal ↦ nat_lt (basic_at t b) (basic_at t i) | Greater ↦ false ]
+    elim (order_of (table_entry t i (target t m)) (table_entry t b (target t m))) as (λ _. Bool)
+    [ Less ↦ true | Equal ↦ nat_lt (basic_at t b) (basic_at t i) | Greater ↦ false ]
 
 unfoldable pub least_row : Table → ℕ → ℕ → ℕ → ℕ → ℕ
 least_row t m best i zero = best
@@ -78,13 +79,17 @@ ratio_at t e i c = table_entry t i c /ℚ table_entry t i e
 
 unfoldable pub beats : Table → ℕ → ℕ → ℕ → List ℕ → Bool
 beats t e b i [] = false
-beats t e b i (c ∷ cs) = elim (order_of (ratio_at t e i c) (ratio_at t e b c)) as (λ _. Bool) [ Less ↦ true | Equal ↦ beats t e b i cs | Greater ↦ false ]
+beats t e b i (c ∷ cs) =
+    elim (order_of (ratio_at t e i c) (ratio_at t e b c)) as (λ _. Bool)
+    [ Less ↦ true | Equal ↦ beats t e b i cs | Greater ↦ false ]
 
 unfoldable pub versus_ops : Table → ℕ → ℕ → ℕ → List ℕ → List EntryOp
 versus_ops t e b i [] = []
 versus_ops t e b i (c ∷ cs) =
-    divide_entry b c (table_entry t b c) (table_entry t b e) ++ (divide_entry i c (table_entry t i c) (table_entry t i e)
-    ++ elim (order_of (ratio_at t e i c) (ratio_at t e b c)) as (λ _. List EntryOp) [ Less ↦ [] | Equal ↦ versus_ops t e b i cs | Greater ↦ [] ])
+    divide_entry b c (table_entry t b c) (table_entry t b e)
+    ++ (divide_entry i c (table_entry t i c) (table_entry t i e)
+    ++ elim (order_of (ratio_at t e i c) (ratio_at t e b c)) as (λ _. List EntryOp)
+    [ Less ↦ [] | Equal ↦ versus_ops t e b i cs | Greater ↦ [] ])
 
 abbrev pub is_candidate : Table → ℕ → ℕ → ℕ → Bool
 is_candidate t m e i = not (nat_eq (basic_at t i) (top t m)) && is_positive (table_entry t i e)
@@ -100,12 +105,14 @@ better_ops t e cs (Some b) i = versus_ops t e b i cs
 
 unfoldable pub leaving_row : Table → ℕ → ℕ → List ℕ → Option ℕ → ℕ → ℕ → Option ℕ
 leaving_row t m e cs best i zero = best
-leaving_row t m e cs best i (suc n) = leaving_row t m e cs (if is_candidate t m e i then better t e cs best i else best) (i + 1) n
+leaving_row t m e cs best i (suc n) =
+    leaving_row t m e cs (if is_candidate t m e i then better t e cs best i else best) (i + 1) n
 
 unfoldable pub leaving_ops : Table → ℕ → ℕ → List ℕ → Option ℕ → ℕ → ℕ → List EntryOp
 leaving_ops t m e cs best i zero = []
 leaving_ops t m e cs best i (suc n) =
-    (if is_candidate t m e i then better_ops t e cs best i else []) ++ leaving_ops t m e cs (if is_candidate t m e i then better t e cs best i else best) (i + 1) n
+    (if is_candidate t m e i then better_ops t e cs best i else [])
+    ++ leaving_ops t m e cs (if is_candidate t m e i then better t e cs best i else best) (i + 1) n
 
 pub record AreColumns (t : Table) (cs : List ℕ) : Type 0 where
   pub within : (k : ℕ) → k < length cs → slice_index_or cs k 0 < t.width

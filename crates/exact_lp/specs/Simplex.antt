@@ -48,15 +48,21 @@ basis_after P B steps (suc k) = swapped (basis_after P B steps k) (leaving_colum
 
 unfoldable pub coordinates_after : Program → (ℕ → ℕ → Rational) → List Exchange → ℕ → ℕ → ℕ → Rational
 coordinates_after P coord steps zero = coord
-coordinates_after P coord steps (suc k) = exchanged_coordinates (coordinates_after P coord steps k) (leaving_column P steps k) (entering_column P steps k)
+coordinates_after P coord steps (suc k) =
+    exchanged_coordinates (coordinates_after P coord steps k) (leaving_column P steps k) (entering_column P steps k)
 
 pub record IsSimplexRun (P : Program) (B : ℕ → Bool) (coord : ℕ → ℕ → Rational) (steps : List Exchange) : Type 0 where
   pub state : (k : ℕ) → k ≤ length steps → IsState P (basis_after P B steps k) (coordinates_after P coord steps k)
   pub due : (k : ℕ) → k < length steps → IsNegative (coordinates_after P coord steps k P.target P.top)
   pub enters : (k : ℕ) → k < length steps → IsEntering P (coordinates_after P coord steps k) (entering_column P steps k)
-  pub leaves : (k : ℕ) → k < length steps → IsLeaving P (basis_after P B steps k) (coordinates_after P coord steps k) (entering_column P steps k) (leaving_column P steps k)
-  pub grows : (k : ℕ) → k < length steps → IsLexBelow (suc P.rank) (λ j. coordinates_after P coord steps k (order P j) P.top) (λ j. coordinates_after P coord steps (suc k) (order P j) P.top)
-  pub once : (i j : ℕ) → i < j → j ≤ length steps → ((k : ℕ) → k < P.columns.count → basis_after P B steps i k ≡ basis_after P B steps j k) → ⊥
+  pub leaves : (k : ℕ) → k < length steps
+      → IsLeaving P (basis_after P B steps k) (coordinates_after P coord steps k) (entering_column P steps k)
+      (leaving_column P steps k)
+  pub grows : (k : ℕ) → k < length steps
+      → IsLexBelow (suc P.rank) (λ j. coordinates_after P coord steps k (order P j) P.top)
+      (λ j. coordinates_after P coord steps (suc k) (order P j) P.top)
+  pub once : (i j : ℕ) → i < j → j ≤ length steps
+      → ((k : ℕ) → k < P.columns.count → basis_after P B steps i k ≡ basis_after P B steps j k) → ⊥
 
 -- ---- the linear program of a list of vectors
 abbrev pub open_basis_of : List (List ℕ) → Symmetric → ℕ → ℕ → Bool
@@ -81,7 +87,8 @@ pub record IsNamed (P : Program) (names : List ℕ) (k : ℕ) : Type 0 where
   pub within : place < length names
   pub here : P.low + name_at names place ≡ k
 
-pub record IsOutsideOf (P : Program) (B : ℕ → Bool) (coord : ℕ → ℕ → Rational) (zeros : List ℕ) (vector : ℕ) : Type 0 where
+pub record IsOutsideOf (P : Program) (B : ℕ → Bool) (coord : ℕ → ℕ
+    → Rational) (zeros : List ℕ) (vector : ℕ) : Type 0 where
   pub vectors : (i : ℕ) → i < length zeros → P.low + name_at zeros i < P.high
   pub basic : (i : ℕ) → i < length zeros → B (P.low + name_at zeros i) ≡ true
   pub every : (k : ℕ) → k < P.columns.count → B k ≡ true → k ≢ P.top → IsNamed P zeros k
@@ -93,4 +100,5 @@ pub record IsOutsideOf (P : Program) (B : ℕ → Bool) (coord : ℕ → ℕ →
   pub vector_is : P.low + vector ≡ P.first place
   pub positive : IsPositive (coord (P.first place) P.top)
   pub before : (j : ℕ) → j < place → IsNonnegative (neg_ℚ (coord (P.first j) P.top))
-  pub is_basis : IsBasis P.columns (swapped B P.top (P.low + vector)) (exchanged_coordinates coord P.top (P.low + vector))
+  pub is_basis : IsBasis P.columns (swapped B P.top (P.low + vector))
+      (exchanged_coordinates coord P.top (P.low + vector))

@@ -26,7 +26,8 @@ use Rattle.exact_lp.specs.Simplex.{step_at, IsSimplexOf}
 use Rattle.exact_lp.specs.Ruled.{last_coordinates}
 
 abbrev pub AtMostOnePlaceAnswer : Type 0
-AtMostOnePlaceAnswer = (p : Problem) (budget : ℕ) (a b : Placed) → IsPlaceAnswer p budget a → IsPlaceAnswer p budget b → (a ≡ b) ⊎ ((a ≡ OutOfMemory) ⊎ (b ≡ OutOfMemory))
+AtMostOnePlaceAnswer = (p : Problem) (budget : ℕ) (a b : Placed) → IsPlaceAnswer p budget a → IsPlaceAnswer p budget b
+    → (a ≡ b) ⊎ ((a ≡ OutOfMemory) ⊎ (b ≡ OutOfMemory))
 
 pub record IsOnlyLeaving (P : Program) (B : ℕ → Bool) (coord : ℕ → ℕ → Rational) (e l : ℕ) : Type 0 where
   pub leaves : IsLeaving P B coord e l
@@ -40,7 +41,8 @@ LeavingIsUnique =
 
 abbrev pub EnteringHasLeaving : Type 0
 EnteringHasLeaving =
-    (P : Program) (B : ℕ → Bool) (coord start : ℕ → ℕ → Rational) → IsProgram P start → IsState P B coord → IsNonnegativeProgram P
+    (P : Program) (B : ℕ → Bool) (coord start : ℕ → ℕ → Rational) → IsProgram P start → IsState P B coord
+    → IsNonnegativeProgram P
     → (e : ℕ) → IsEntering P coord e → (l : ℕ) × IsOnlyLeaving P B coord e l
 
 abbrev pub HasNonnegativeFirst : List (List ℕ) → Symmetric → Type 0

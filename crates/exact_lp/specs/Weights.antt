@@ -27,8 +27,10 @@ abbrev pub weight_in : List Rational → ℕ → Rational
 weight_in found k = slice_index_or found k (whole (pos 0))
 
 abbrev pub IsSound : ℕ → List (List ℕ) → Symmetric → ℤ → Placed → Type 0
-IsSound n vectors s d (Inside found steps) = (length found ≡ length vectors) × AreWeights n vectors s d (weight_in found)
-IsSound n vectors s d (Outside zeros vector steps) = ((c : ℕ → Rational) → AreWeights n vectors s d c → ⊥) × IsSeparating n vectors s zeros vector
+IsSound n vectors s d (Inside found steps) =
+    (length found ≡ length vectors) × AreWeights n vectors s d (weight_in found)
+IsSound n vectors s d (Outside zeros vector steps) =
+    ((c : ℕ → Rational) → AreWeights n vectors s d c → ⊥) × IsSeparating n vectors s zeros vector
 IsSound n vectors s d (Pivots steps) = Unit {0}
 IsSound n vectors s d (Wide op steps) = Unit {0}
 IsSound n vectors s d OutOfMemory = Unit {0}

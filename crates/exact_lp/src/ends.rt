@@ -49,7 +49,12 @@ fn coefficient(
 ) -> Result<Fraction, PlaceOp>
     requires width { rows_of tableau.now + vectors + 2 ≤ tableau.now.width }
     requires vector { vector < vectors }
-    ensures { result ≡ answer place_is_owed (if is_raised tableau.now vectors firsts.now vector then map (Weight vector) (add_ops (the_at_target tableau.now vectors (rows_of tableau.now + vector)) (the_at_target tableau.now vectors (top tableau.now vectors))) else []) (the_coefficient tableau.now vectors firsts.now vector) }
+    ensures { result
+        ≡ answer place_is_owed
+        (if is_raised tableau.now vectors firsts.now vector then map (Weight vector)
+        (add_ops (the_at_target tableau.now vectors (rows_of tableau.now + vector))
+        (the_at_target tableau.now vectors (top tableau.now vectors))) else [])
+        (the_coefficient tableau.now vectors firsts.now vector) }
 {
     let _columns = tableau.columns();
     let column = tableau.rows() + vector;
@@ -72,7 +77,9 @@ fn weight(
     requires width { rows_of tableau.now + vectors + 2 ≤ tableau.now.width }
     requires vector { vector < vectors }
     requires divisor { d ≢ whole (pos 0) }
-    ensures { result ≡ answer place_is_owed (coefficient_ops tableau.now vectors firsts.now d vector) (the_coefficient tableau.now vectors firsts.now vector /ℚ d) }
+    ensures { result
+        ≡ answer place_is_owed (coefficient_ops tableau.now vectors firsts.now d vector)
+        (the_coefficient tableau.now vectors firsts.now vector /ℚ d) }
 {
     let coefficient = coefficient(tableau, vectors, firsts, vector)?;
     at_weight(vector, coefficient.div(d))

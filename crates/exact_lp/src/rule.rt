@@ -193,7 +193,10 @@ fn ratio(tableau: &Tableau, entering: usize, row: usize, column: usize) -> Resul
     requires column { column < tableau.now.width }
     requires entering { entering < tableau.now.width }
     requires divisor { table_entry tableau.now row entering ≢ whole (pos 0) }
-    ensures { result ≡ answer entry_is_owed (divide_entry row column (table_entry tableau.now row column) (table_entry tableau.now row entering)) (ratio_at tableau.now entering row column) }
+    ensures { result
+        ≡ answer entry_is_owed
+        (divide_entry row column (table_entry tableau.now row column) (table_entry tableau.now row entering))
+        (ratio_at tableau.now entering row column) }
 {
     let (_rows, _columns) = (tableau.rows(), tableau.columns());
     let entry = entry_at(tableau, row, column);
@@ -215,7 +218,9 @@ fn is_less(
     requires entering { entering < tableau.now.width }
     requires best_divisor { table_entry tableau.now best entering ≢ whole (pos 0) }
     requires row_divisor { table_entry tableau.now row entering ≢ whole (pos 0) }
-    ensures { result ≡ answer entry_is_owed (versus_ops tableau.now entering best row columns.now) (beats tableau.now entering best row columns.now) }
+    ensures { result
+        ≡ answer entry_is_owed (versus_ops tableau.now entering best row columns.now)
+        (beats tableau.now entering best row columns.now) }
 {
     for column in columns {
         let other = ratio(tableau, entering, best, *column)?;
@@ -254,7 +259,9 @@ fn better(
     requires row_divisor { table_entry tableau.now row entering ≢ whole (pos 0) }
     requires best { IfSome best (λ b. b < rows_of tableau.now) }
     requires best_divisor { IfSome best (λ b. table_entry tableau.now b entering ≢ whole (pos 0)) }
-    ensures { result ≡ answer entry_is_owed (better_ops tableau.now entering columns.now best row) (the_better tableau.now entering columns.now best row) }
+    ensures { result
+        ≡ answer entry_is_owed (better_ops tableau.now entering columns.now best row)
+        (the_better tableau.now entering columns.now best row) }
 {
     match best {
         None => Ok(Some(row)),
@@ -280,7 +287,9 @@ pub fn leaving_row(
     requires width { rows_of tableau.now + vectors + 2 ≤ tableau.now.width }
     requires columns { AreColumns tableau.now columns.now }
     requires entering { entering < tableau.now.width }
-    ensures { result ≡ answer entry_is_owed (leaving_ops tableau.now vectors entering columns.now None 0 (rows_of tableau.now)) (the_leaving_row tableau.now vectors entering columns.now None 0 (rows_of tableau.now)) }
+    ensures { result
+        ≡ answer entry_is_owed (leaving_ops tableau.now vectors entering columns.now None 0 (rows_of tableau.now))
+        (the_leaving_row tableau.now vectors entering columns.now None 0 (rows_of tableau.now)) }
 {
     let mut best = None;
     for row in 0..tableau.rows() {

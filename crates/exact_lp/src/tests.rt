@@ -34,7 +34,7 @@ fn four_vectors(rt: &impl Abort, alloc: Global) -> VectorList
     list
 }
 
-#[tactic(auto, using(crate::proofs::Examples::three_entries))]
+#[tactic(auto, using(symmetric_matrix::proofs::SmallLower::lower_of_two))]
 fn matrix(rt: &impl Abort, alloc: Global, first: i128, second: i128, third: i128) -> SymInt
     requires first { FitsInt first }
     requires second { FitsInt second }

@@ -7,8 +7,9 @@ use Rattle.std.proofs.Math.Nat.{dvd-mul_right, div-mul_cancel}
 use Rattle.std.proofs.lemmas.Nat.Gcd.{dvd_refl, dvd_trans}
 use Prim.Native.Nat.{◌∣◌}
 use Rattle.commutative_ring.specs.Gcd.{gcd_of}
-use Rattle.commutative_ring.proofs.Lowest.{part_times, above_times}
+use Rattle.commutative_ring.proofs.Lowest.{part_times, above_times, cross_parts}
 use Rattle.commutative_ring.proofs.Ring.{num, ◌⊗◌, v0, v1, v2}
+use Rattle.commutative_ring.proofs.SmallCases.{last_or_before}
 use Rattle.exact_forms.specs.Rational.{Rational, whole, ◌*ℚ◌}
 use Rattle.exact_forms.specs.Triangles.{triangle}
 use Rattle.exact_forms.proofs.Rational.{den_positive, ring_ℚ, whole-mul}
@@ -24,17 +25,17 @@ use Rattle.extreme_ray.proofs.Clearings.{lifted_some}
 pub length-coefficients : (t : Table) (r n : ℕ) → length (coefficients t r n) ≡ triangle n
 unfolding coefficients triangle
 length-coefficients t r zero = refl
-length-coefficients t r (suc n) = length-append (coefficients t r n) (row_coefficients t r n) ∙ ap₂ (λ (a : ℕ) (b : ℕ). a + b) (length-coefficients t r n) (length-map-range_with_len (coefficient_at t r n) 0 (n + 1) ∙ (let e : n + 1 ≡ suc n = omega arith in e))
+length-coefficients t r (suc n) = length-append (coefficients t r n) (row_coefficients t r n)
+    ∙ ap₂ (λ (a : ℕ) (b : ℕ). a + b) (length-coefficients t r n) (length-map-range_with_len (coefficient_at t r n) 0 (n + 1)
+    ∙ (let e : n + 1 ≡ suc n = omega arith in e))
 
 pub coefficient_is : (t : Table) (r n a b : ℕ) (d : Coefficient) → b ≤ a → a < n → get_or (coefficients t r n) (triangle a + b) d ≡ coefficient_at t r a b
 unfolding coefficients
 coefficient_is t r zero a b d h l = absurd (omega arith)
 coefficient_is t r (suc n) a b d h l = by (last_or_before a n l) (λ m. coefficient_is t r n a b d h m)
   where
-    last_or_before : (a n : ℕ) → a < suc n → (a ≡ n) ⊎ (a < n)
-    last_or_before a n l = grind arith
-
-    by : ((a ≡ n) ⊎ (a < n)) → (a < n → get_or (coefficients t r n) (triangle a + b) d ≡ coefficient_at t r a b) → get_or (coefficients t r n ++ row_coefficients t r n) (triangle a + b) d ≡ coefficient_at t r a b
+    by : ((a ≡ n) ⊎ (a < n)) → (a < n → get_or (coefficients t r n) (triangle a + b) d ≡ coefficient_at t r a b)
+        → get_or (coefficients t r n ++ row_coefficients t r n) (triangle a + b) d ≡ coefficient_at t r a b
     by (inl e) rec =
         ap (λ (k : ℕ). get_or (coefficients t r n ++ row_coefficients t r n) (k + b) d) (ap triangle e ∙ sym (length-coefficients t r n))
         ∙ get_or-append-add (coefficients t r n) (row_coefficients t r n) b d
@@ -66,12 +67,12 @@ denominator_some e (c ∷ cs) h = denominator_some (lifted e c) cs (lifted_some 
 den_divides : (e : ℕ) (c : Coefficient) → c.value.den ∣ lifted e c
 den_divides e c = by c.value.den (den_positive c.value)
   where
-    turned : (e d x y g : ℕ) → x * g ≡ e → y * g ≡ d → e * y ≡ d * x
-    turned e d x y g h k = rw (← h, ← k) (omega arith)
-
     by : (d : ℕ) → 0 < d → d ∣ e * (d / gcd_of e d)
     by zero h = absurd (omega arith)
-    by (suc d) h = subst (λ (n : ℕ). suc d ∣ n) (sym (turned e (suc d) (e / gcd_of e (suc d)) (suc d / gcd_of e (suc d)) (gcd_of e (suc d)) (above_times e d) (part_times e d))) (dvd-mul_right (suc d) (e / gcd_of e (suc d)))
+    by (suc d) h =
+        subst (λ (n : ℕ). suc d ∣ n)
+        (sym (cross_parts e (suc d) (e / gcd_of e (suc d)) (suc d / gcd_of e (suc d)) (gcd_of e (suc d)) (above_times e d) (part_times e d)))
+        (dvd-mul_right (suc d) (e / gcd_of e (suc d)))
 
 pub denominator_first : (e : ℕ) (cs : List Coefficient) → e ∣ denominator_over e cs
 unfolding denominator_over
@@ -100,5 +101,6 @@ unfolding numerator
 numerator_value e c h = by c.diagonal
   where
     by : (b : Bool) → whole (if b then over_denominator e c *ℤ pos 2 else over_denominator e c) ≡ whole (pos e) *ℚ (times_of b *ℚ c.value)
-    by true = whole-mul (over_denominator e c) (pos 2) ∙ ap (λ w. w *ℚ whole (pos 2)) (over_value e c h) ∙ ring_ℚ (whole (pos e) ∷ c.value ∷ whole (pos 2) ∷ []) (v0 ⊗ v1 ⊗ v2) (v0 ⊗ (v2 ⊗ v1)) refl
+    by true = whole-mul (over_denominator e c) (pos 2) ∙ ap (λ w. w *ℚ whole (pos 2)) (over_value e c h)
+        ∙ ring_ℚ (whole (pos e) ∷ c.value ∷ whole (pos 2) ∷ []) (v0 ⊗ v1 ⊗ v2) (v0 ⊗ (v2 ⊗ v1)) refl
     by false = over_value e c h ∙ ring_ℚ (whole (pos e) ∷ c.value ∷ []) (v0 ⊗ v1) (v0 ⊗ (num (pos 1) ⊗ v1)) refl

@@ -18,13 +18,13 @@ use Rattle.symmetric_matrix.specs.StartVectors.{run_digit, run_vector, runs_from
 use Rattle.symmetric_matrix.proofs.Runs.{length-start_list}
 use Rattle.symmetric_matrix.proofs.Weights.{start_matrices_independent}
 
-worked : ray ((0 ∷ 1 ∷ []) ∷ (1 ∷ 0 ∷ []) ∷ (1 ∷ 1 ∷ []) ∷ []) (1 ∷ 2 ∷ []) 0 ≡ record { size = 2; lower = pos 0 ∷ negsuc 0 ∷ pos 2 ∷ [] }
-unfolding ray position coefficients denominator_over numerator numerators primitive_of squares square_rows row_of first_place places_where first_row brought_in first_bases exchanged table_cells pivot_row divided_row rest_cells new_cell cells place_in start_cell triangle entry_in entry divisor_from gcd_of gcd_steps whole ratio inverse ◌+ℚ◌ ◌-ℚ◌ ◌*ℚ◌ ◌/ℚ◌ neg_ℚ
-worked = refl
-
-other_order : ray ((0 ∷ 1 ∷ []) ∷ (1 ∷ 0 ∷ []) ∷ (1 ∷ 1 ∷ []) ∷ []) (2 ∷ 1 ∷ []) 0 ≡ record { size = 2; lower = pos 0 ∷ negsuc 0 ∷ pos 2 ∷ [] }
-unfolding ray position coefficients denominator_over numerator numerators primitive_of squares square_rows row_of first_place places_where first_row brought_in first_bases exchanged table_cells pivot_row divided_row rest_cells new_cell cells place_in start_cell triangle entry_in entry divisor_from gcd_of gcd_steps whole ratio inverse ◌+ℚ◌ ◌-ℚ◌ ◌*ℚ◌ ◌/ℚ◌ neg_ℚ
-other_order = refl
+-- in either order of the zeros
+worked : (ray ((0 ∷ 1 ∷ []) ∷ (1 ∷ 0 ∷ []) ∷ (1 ∷ 1 ∷ []) ∷ []) (1 ∷ 2 ∷ []) 0 ≡ record { size = 2; lower = pos 0 ∷ negsuc 0 ∷ pos 2 ∷ [] })
+    × (ray ((0 ∷ 1 ∷ []) ∷ (1 ∷ 0 ∷ []) ∷ (1 ∷ 1 ∷ []) ∷ []) (2 ∷ 1 ∷ []) 0 ≡ record { size = 2; lower = pos 0 ∷ negsuc 0 ∷ pos 2 ∷ [] })
+unfolding ray position coefficients denominator_over numerator numerators primitive_of squares square_rows row_of first_place places_where first_row brought_in
+    first_bases exchanged table_cells pivot_row divided_row rest_cells new_cell cells place_in start_cell triangle entry_in entry divisor_from gcd_of gcd_steps
+    whole ratio inverse ◌+ℚ◌ ◌-ℚ◌ ◌*ℚ◌ ◌/ℚ◌ neg_ℚ
+worked = (refl, refl)
 
 -- ---- the condition, for the worked rows
 triangle_two : triangle 2 ≡ 3
@@ -119,7 +119,8 @@ size_of_one : vector_size (start_list 1) 0 ≡ 1
 unfolding start_list late_runs runs_from run_vector run_digit
 size_of_one = refl
 
-basis_at : (n : ℕ) (vs ws : List (List ℕ)) (zeros : List ℕ) → vs ≡ ws → vector_size ws 0 ≡ n → IsRayBasis n ws zeros 0 → IsRayBasis (vector_size vs 0) vs zeros 0
+basis_at : (n : ℕ) (vs ws : List (List ℕ)) (zeros : List ℕ) → vs ≡ ws → vector_size ws 0 ≡ n → IsRayBasis n ws zeros 0
+    → IsRayBasis (vector_size vs 0) vs zeros 0
 basis_at n vs ws zeros e s h =
     subst (λ (vs : List (List ℕ)). IsRayBasis (vector_size vs 0) vs zeros 0) (sym e) (subst (λ (n : ℕ). IsRayBasis n ws zeros 0) (sym s) h)
 

@@ -1,8 +1,9 @@
 -- The columns are the zeros and the leaving vector, each once.
-use Rattle.std.specs.Prelude.{◌≡◌, ◌≢◌, ℕ, zero, suc, ◌+◌, ◌<◌, ◌⊎◌, pos, ◌*ℤ◌, true, nat_eq, List, [], ◌∷◌, ◌++◌, length, slice_index_or, Option, Some, None}
+use Rattle.std.specs.Prelude.{◌≡◌, ◌≢◌, ℕ, zero, suc, ◌+◌, ◌<◌, ◌⊎◌, pos, ◌*ℤ◌, true, List, [], ◌∷◌, ◌++◌, length, slice_index_or, Option, Some, None}
 use Rattle.std.proofs.Common.{arith, sym, ◌∙◌, ap, subst, refl, inl, inr, length-append, get_or-append-add}
 use Rattle.std.proofs.Math.ListN.{get_or-append}
 use Rattle.std.proofs.lemmas.List.{get_or-map, length-map}
+use Rattle.commutative_ring.proofs.SmallCases.{apart_ways, same_of_test, test_of_same}
 use Rattle.exact_forms.specs.Rational.{whole}
 use Rattle.exact_forms.specs.RankOne.{AreCoordinates, AreIndependent}
 use Rattle.exact_forms.specs.Vectors.{coordinate}
@@ -25,28 +26,27 @@ pub position_found : (xs : List ℕ) (x p : ℕ) → p < length xs → name_at x
 unfolding position
 position_found xs x p l e = by (first_place (is_name xs x) 0 (length xs)) refl
   where
-    yes : (a b : ℕ) → a ≡ b → nat_eq a b ≡ true
-    yes a b e = grind arith
-
-    of_true : (a b : ℕ) → nat_eq a b ≡ true → a ≡ b
-    of_true a b e = grind arith
-
     by : (o : Option ℕ) → first_place (is_name xs x) 0 (length xs) ≡ o → IsNameFound xs x (or_zero o)
-    by (Some i) h = let f = first_found (is_name xs x) 0 (length xs) i h in record { within = let b = f.below in omega arith; here = of_true (name_at xs i) x f.passes }
-    by None h = absurd (let f = first_none (is_name xs x) 0 (length xs) h p (omega arith) (omega arith) in let t = yes (name_at xs p) x e in cc)
+    by (Some i) h = let f = first_found (is_name xs x) 0 (length xs) i h in
+        record { within = let b = f.below in omega arith; here = same_of_test (name_at xs i) x f.passes }
+    by None h = absurd (let f = first_none (is_name xs x) 0 (length xs) h p (omega arith) (omega arith) in let t = test_of_same (name_at xs p) x e in cc)
 
-pub mark_coordinates : (n : ℕ) (vs : List (List ℕ)) (k : ℕ) → k < length vs → AreCoordinates n vs (mark k) (λ i j. whole (coordinate (slice_index_or vs k []) i *ℤ coordinate (slice_index_or vs k []) j))
+pub mark_coordinates : (n : ℕ) (vs : List (List ℕ)) (k : ℕ) → k < length vs
+    → AreCoordinates n vs (mark k) (λ i j. whole (coordinate (slice_index_or vs k []) i *ℤ coordinate (slice_index_or vs k []) j))
 mark_coordinates n vs k l = record {
-  sum = λ i j li lj. rank_one_sum_is vs (mark k) i j ∙ sum_marked (length vs) (λ m. whole (coordinate (slice_index_or vs m []) i *ℤ coordinate (slice_index_or vs m []) j)) k l;
+  sum = λ i j li lj. rank_one_sum_is vs (mark k) i j
+      ∙ sum_marked (length vs) (λ m. whole (coordinate (slice_index_or vs m []) i *ℤ coordinate (slice_index_or vs m []) j)) k l;
 }
 
 -- of independent matrices no two are equal
-pub no_two_equal : (n : ℕ) (vs : List (List ℕ)) → AreIndependent n vs → (k m : ℕ) → k < length vs → m < length vs → k ≢ m → slice_index_or vs k [] ≢ slice_index_or vs m []
+pub no_two_equal : (n : ℕ) (vs : List (List ℕ)) → AreIndependent n vs → (k m : ℕ) → k < length vs → m < length vs → k ≢ m
+    → slice_index_or vs k [] ≢ slice_index_or vs m []
 no_two_equal n vs free k m lk lm ne e =
     positive_not_zero (whole (pos 1)) one_positive
     (sym (replaced_here (λ m. whole (pos 0)) k (whole (pos 1)) k refl)
     ∙ coordinates_agree n vs (mark k) (mark m) (λ i j. whole (coordinate (slice_index_or vs m []) i *ℤ coordinate (slice_index_or vs m []) j)) free
-    (subst (λ (v : List ℕ). AreCoordinates n vs (mark k) (λ i j. whole (coordinate v i *ℤ coordinate v j))) e (mark_coordinates n vs k lk)) (mark_coordinates n vs m lm) k lk
+    (subst (λ (v : List ℕ). AreCoordinates n vs (mark k) (λ i j. whole (coordinate v i *ℤ coordinate v j))) e (mark_coordinates n vs k lk))
+    (mark_coordinates n vs m lm) k lk
     ∙ replaced_other (λ m. whole (pos 0)) m (whole (pos 1)) k ne)
 
 pub named_at : (vectors : List (List ℕ)) (xs : List ℕ) (i : ℕ) → i < length xs → slice_index_or (named vectors xs) i [] ≡ vector_at vectors (name_at xs i)
@@ -81,11 +81,8 @@ module _ (n : ℕ) (vectors : List (List ℕ)) (zeros : List ℕ) (l : ℕ) (B :
   pub name_within : (i : ℕ) → i < length names → name_at names i < length vectors
   name_within i h = let b = (places_pass (contains (l ∷ zeros)) 0 (length vectors) i h).below in omega arith
 
-  three_ways : (i j : ℕ) → i ≢ j → (i < j) ⊎ (j < i)
-  three_ways i j n = grind arith
-
   pub names_apart : (i j : ℕ) → i < length names → j < length names → i ≢ j → name_at names i ≢ name_at names j
-  names_apart i j li lj n e = by (three_ways i j n)
+  names_apart i j li lj n e = by (apart_ways i j n)
     where
       by : ((i < j) ⊎ (j < i)) → ⊥
       by (inl h) = let a = places_increase (contains (l ∷ zeros)) 0 (length vectors) i j h lj in omega arith
@@ -94,8 +91,11 @@ module _ (n : ℕ) (vectors : List (List ℕ)) (zeros : List ℕ) (l : ℕ) (B :
   listed : (i : ℕ) → i < length names → IsNameFound given (name_at names i) (position given (name_at names i))
   listed i h = let c = contained (l ∷ zeros) (name_at names i) (places_pass (contains (l ∷ zeros)) 0 (length vectors) i h).passes in by c.0 c.1 c.2
     where
-      by : (p : ℕ) → p < length (l ∷ zeros) → slice_index_or (l ∷ zeros) p 0 ≡ name_at names i → IsNameFound given (name_at names i) (position given (name_at names i))
-      by zero lt e = position_found given (name_at names i) (length zeros) (let a = given_length in omega arith) (ap (name_at given) (let s : length zeros ≡ length zeros + 0 = omega arith in s) ∙ get_or-append-add zeros (l ∷ []) 0 0 ∙ e)
+      by : (p : ℕ) → p < length (l ∷ zeros) → slice_index_or (l ∷ zeros) p 0 ≡ name_at names i
+          → IsNameFound given (name_at names i) (position given (name_at names i))
+      by zero lt e =
+          position_found given (name_at names i) (length zeros) (let a = given_length in
+          omega arith) (ap (name_at given) (let s : length zeros ≡ length zeros + 0 = omega arith in s) ∙ get_or-append-add zeros (l ∷ []) 0 0 ∙ e)
       by (suc q) lt e = position_found given (name_at names i) q (let a = given_length in omega arith) (get_or-append zeros (l ∷ []) 0 q (omega arith) ∙ e)
 
   abbrev given_columns : Columns
@@ -106,7 +106,10 @@ module _ (n : ℕ) (vectors : List (List ℕ)) (zeros : List ℕ) (l : ℕ) (B :
   }
 
   given_free : IsIndependent given_columns (λ k. true)
-  given_free = record { only_zero = λ c h k lk. B.independent.only_zero c (record { sum = λ i j li lj. rank_one_sum_is (named vectors given) c i j ∙ h.sum i j li lj }) k lk }
+  given_free = record {
+    only_zero = λ c h k lk.
+        B.independent.only_zero c (record { sum = λ i j li lj. rank_one_sum_is (named vectors given) c i j ∙ h.sum i j li lj }) k lk;
+  }
 
   pub names_independent : AreIndependent n (named vectors names)
   names_independent =
@@ -115,21 +118,29 @@ module _ (n : ℕ) (vectors : List (List ℕ)) (zeros : List ℕ) (l : ℕ) (B :
       independent_of_free given_columns (λ k. true) (named vectors names) (λ i. position given (name_at names i)) given_free
       (λ i h. let f = (listed i (omega arith)).within in omega arith)
       (λ i h. refl)
-      (λ i j li lj ne e. names_apart i j (omega arith) (omega arith) ne (sym (listed i (omega arith)).here ∙ ap (name_at given) e ∙ (listed j (omega arith)).here))
+      (λ i j li lj ne e. names_apart i j (omega arith) (omega arith) ne (sym (listed i (omega arith)).here ∙ ap (name_at given) e
+      ∙ (listed j (omega arith)).here))
       (λ k i j h li lj. let f = listed k (omega arith) in
-      ap (λ (v : List ℕ). whole (coordinate v i *ℤ coordinate v j)) (named_at vectors given (position given (name_at names k)) f.within ∙ ap (vector_at vectors) f.here ∙ sym (named_at vectors names k (omega arith))))
+      ap (λ (v : List ℕ). whole (coordinate v i *ℤ coordinate v j)) (named_at vectors given (position given (name_at names k)) f.within
+      ∙ ap (vector_at vectors) f.here ∙ sym (named_at vectors names k (omega arith))))
 
   -- where the zeros and the leaving vector stand
   pub zero_found : (q : ℕ) → q < length zeros → (p : ℕ) × (p < length names) × (name_at names p ≡ name_at zeros q)
-  zero_found q h = places_all (contains (l ∷ zeros)) 0 (length vectors) (name_at zeros q) (contains_at (l ∷ zeros) (suc q) (omega arith)) (omega arith) (let w = B.within q h in omega arith)
+  zero_found q h =
+      places_all (contains (l ∷ zeros)) 0 (length vectors) (name_at zeros q) (contains_at (l ∷ zeros) (suc q) (omega arith)) (omega arith)
+      (let w = B.within q h in omega arith)
 
   pub leaving_found : IsNameFound names l (position names l)
-  leaving_found = let f = places_all (contains (l ∷ zeros)) 0 (length vectors) l (contains_at (l ∷ zeros) 0 (omega arith)) (omega arith) (let w = B.leaving_within in omega arith) in position_found names l f.0 f.1 f.2
+  leaving_found = let f =
+      places_all (contains (l ∷ zeros)) 0 (length vectors) l (contains_at (l ∷ zeros) 0 (omega arith)) (omega arith) (let w = B.leaving_within in
+      omega arith) in position_found names l f.0 f.1 f.2
 
   pub zero_not_leaving : (q : ℕ) → q < length zeros → name_at zeros q ≢ l
   zero_not_leaving q h e =
       let g = named_length vectors given in
       let s = given_length in
       no_two_equal n (named vectors given) B.independent q (length zeros) (omega arith) (omega arith) (λ e. omega arith)
-      (named_at vectors given q (omega arith) ∙ ap (vector_at vectors) (get_or-append zeros (l ∷ []) 0 q h ∙ e ∙ sym (ap (name_at given) (let s : length zeros ≡ length zeros + 0 = omega arith in s) ∙ get_or-append-add zeros (l ∷ []) 0 0))
+      (named_at vectors given q (omega arith)
+      ∙ ap (vector_at vectors) (get_or-append zeros (l ∷ []) 0 q h ∙ e
+      ∙ sym (ap (name_at given) (let s : length zeros ≡ length zeros + 0 = omega arith in s) ∙ get_or-append-add zeros (l ∷ []) 0 0))
       ∙ sym (named_at vectors given (length zeros) (omega arith)))

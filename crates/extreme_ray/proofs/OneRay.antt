@@ -1,10 +1,12 @@
 -- As many independent vectors as a symmetric matrix has entries are perfect, so one primitive matrix is a ray of them.
-use Rattle.std.specs.Prelude.{◌≡◌, ◌≢◌, ℕ, zero, suc, ◌+◌, ◌<◌, ◌≤◌, ◌⊎◌, ℤ, pos, negsuc, ◌*ℤ◌, ◌≤ℤ◌, true, false, List, [], ◌∷◌, ◌++◌, length, map, slice_index_or}
+use Rattle.std.specs.Prelude.{◌≡◌, ◌≢◌, ℕ, zero, suc, ◌+◌, ◌<◌, ◌≤◌, ◌⊎◌, ℤ, pos, negsuc, ◌*ℤ◌, ◌≤ℤ◌, true, false, List, [], ◌∷◌, ◌++◌, length, map}
+use Rattle.std.specs.Prelude.{slice_index_or}
 use Rattle.std.specs.List.{range_with_len}
 use Rattle.std.proofs.Common.{arith, sym, ◌∙◌, ap, ap₂, refl, subst, inl, inr, length-append, get_or-append-add}
 use Rattle.std.proofs.Math.ListN.{get_or-append}
 use Rattle.std.proofs.lemmas.Int.{ints}
 use Rattle.std.proofs.lemmas.List.FromFn.{length-map-range_with_len, get_or-map-range_with_len}
+use lib.IntN.{*ℤ_comm}
 use Rattle.exact_forms.specs.Rational.{whole}
 use Rattle.exact_forms.specs.Forms.{form, unit_sum}
 use Rattle.exact_forms.specs.Triangles.{triangle}
@@ -12,12 +14,12 @@ use Rattle.exact_forms.specs.Vectors.{coordinate}
 use Rattle.exact_forms.specs.Coordinates.{Columns}
 use Rattle.exact_forms.specs.Copositive.{IsPerfect}
 use Rattle.exact_forms.specs.RankOne.{AreCoordinates, AreIndependent, HasVectors}
-use Rattle.exact_forms.proofs.Coordinates.{true_or_false}
 use Rattle.exact_forms.proofs.Forms.{form-mul}
 use Rattle.exact_forms.proofs.Perfect.{perfect_from_units, perfect_decides}
 use Rattle.exact_forms.proofs.Triangles.{place_of}
 use Rattle.exact_forms.proofs.Vectors.{all_from_places}
 use Rattle.commutative_ring.proofs.Expand.{expand}
+use Rattle.commutative_ring.proofs.SmallCases.{before_or_here, true_or_false}
 use Rattle.symmetric_matrix.specs.Symmetric.{Symmetric, IsSymmetricMatrix, entry}
 use Rattle.symmetric_matrix.proofs.Places.{entry_lower, entry_flip}
 use Rattle.exact_linear.specs.Tables.{Table}
@@ -35,7 +37,8 @@ use Rattle.extreme_ray.proofs.Columns.{over_vectors, all_taken}
 use Rattle.extreme_ray.proofs.Names.{named_at, named_length}
 use Rattle.extreme_ray.proofs.Multiples.{same_multiples}
 
-module _ (n : ℕ) (vectors : List (List ℕ)) (sizes : (k : ℕ) → k < length vectors → length (slice_index_or vectors k []) ≡ n) (number : length vectors ≡ triangle n) (free : AreIndependent n vectors) where
+module _ (n : ℕ) (vectors : List (List ℕ)) (sizes : (k : ℕ) → k < length vectors
+    → length (slice_index_or vectors k []) ≡ n) (number : length vectors ≡ triangle n) (free : AreIndependent n vectors) where
   abbrev A : Columns
   A = columns_of n (squares vectors)
 
@@ -91,10 +94,12 @@ module _ (n : ℕ) (vectors : List (List ℕ)) (sizes : (k : ℕ) → k < length
               let e = F.shown.every (low + i) (omega arith) (taken i (omega arith)) in
               (e.0, e.1, e.2 ∙ sym (own_at i (omega arith)))
 
-  unit_written : (a b : ℕ) → a < n → b < n → AreCoordinates n vectors (λ m. at_unit A low vectors U F.basis F.coord F.first.basis (low + m) a b) (λ i j. whole (unit_sum a b i j))
+  unit_written : (a b : ℕ) → a < n → b < n
+      → AreCoordinates n vectors (λ m. at_unit A low vectors U F.basis F.coord F.first.basis (low + m) a b) (λ i j. whole (unit_sum a b i j))
   unit_written a b la lb =
       let C = unit_coordinates A low vectors U F.basis F.coord F.first.basis a b la lb in
-      over_vectors A low vectors V count (λ k. at_unit A low vectors U F.basis F.coord F.first.basis k a b) (λ i j. whole (unit_sum a b i j)) (λ k lk h. C.outside k lk (outside k lk h)) C.sum
+      over_vectors A low vectors V count (λ k. at_unit A low vectors U F.basis F.coord F.first.basis k a b) (λ i j. whole (unit_sum a b i j))
+      (λ k lk h. C.outside k lk (outside k lk h)) C.sum
     where
       outside : (k : ℕ) → k < A.count → ((k < low) ⊎ (low + length vectors ≤ k)) → F.basis k ≡ false
       outside k lk (inl h) = no_unit k h
@@ -103,7 +108,8 @@ module _ (n : ℕ) (vectors : List (List ℕ)) (sizes : (k : ℕ) → k < length
   pub independent_perfect : IsPerfect n vectors
   independent_perfect = perfect_from_units n vectors (λ a b m. at_unit A low vectors U F.basis F.coord F.first.basis (low + m) a b) unit_written
 
-module _ (n : ℕ) (vectors : List (List ℕ)) (zeros : List ℕ) (l : ℕ) (B : IsRayBasis n vectors zeros l) (sizes : (k : ℕ) → k < length vectors → length (vector_at vectors k) ≡ n) where
+module _ (n : ℕ) (vectors : List (List ℕ)) (zeros : List ℕ) (l : ℕ) (B : IsRayBasis n vectors zeros l) (sizes : (k : ℕ) → k < length vectors
+    → length (vector_at vectors k) ≡ n) where
   abbrev given : List ℕ
   given = zeros ++ l ∷ []
 
@@ -117,10 +123,7 @@ module _ (n : ℕ) (vectors : List (List ℕ)) (zeros : List ℕ) (l : ℕ) (B :
   given_last = ap (name_at given) (let s : length zeros ≡ length zeros + 0 = omega arith in s) ∙ get_or-append-add zeros (l ∷ []) 0 0
 
   zero_or_last : (k : ℕ) → k < length given → (k < length zeros) ⊎ (k ≡ length zeros)
-  zero_or_last k h = by k (length zeros) (let g = given_length in omega arith)
-    where
-      by : (k m : ℕ) → k < m + 1 → (k < m) ⊎ (k ≡ m)
-      by k m h = grind arith
+  zero_or_last k h = before_or_here k (length zeros) (let g = given_length in omega arith)
 
   given_within : (k : ℕ) → k < length given → name_at given k < length vectors
   given_within k h = by (zero_or_last k h)
@@ -138,23 +141,24 @@ module _ (n : ℕ) (vectors : List (List ℕ)) (zeros : List ℕ) (l : ℕ) (B :
       (λ k h. ap length (named_at vectors given k (omega arith)) ∙ sizes (name_at given k) (given_within k (omega arith)))
       (m ∙ g ∙ B.number) B.independent
 
-  module _ (r s : Symmetric) (R : IsPrimitiveRay n (named vectors zeros) (vector_at vectors l) r) (S : IsPrimitiveRay n (named vectors zeros) (vector_at vectors l) s) where
+  module _ (r s : Symmetric) (R : IsPrimitiveRay n (named vectors zeros) (vector_at vectors l) r)
+      (S : IsPrimitiveRay n (named vectors zeros) (vector_at vectors l) s) where
     abbrev a : ℤ
     a = form n (entry r) (coordinate (vector_at vectors l))
 
     abbrev b : ℤ
     b = form n (entry s) (coordinate (vector_at vectors l))
 
-    swap : (x y : ℤ) → x *ℤ y ≡ y *ℤ x
-    swap x y = simp expand
-
     -- at each of them b·R and a·S have one value
-    one_value : (k : ℕ) → k < length given → b *ℤ form n (entry r) (coordinate (slice_index_or (named vectors given) k [])) ≡ a *ℤ form n (entry s) (coordinate (slice_index_or (named vectors given) k []))
+    one_value : (k : ℕ) → k < length given
+        → b *ℤ form n (entry r) (coordinate (slice_index_or (named vectors given) k []))
+        ≡ a *ℤ form n (entry s) (coordinate (slice_index_or (named vectors given) k []))
     one_value k h =
         ap (λ (v : List ℕ). b *ℤ form n (entry r) (coordinate v)) (named_at vectors given k h) ∙ by (zero_or_last k h)
         ∙ ap (λ (v : List ℕ). a *ℤ form n (entry s) (coordinate v)) (sym (named_at vectors given k h))
       where
-        zero_at : (q : Symmetric) → IsPrimitiveRay n (named vectors zeros) (vector_at vectors l) q → k < length zeros → form n (entry q) (coordinate (vector_at vectors (name_at given k))) ≡ pos 0
+        zero_at : (q : Symmetric) → IsPrimitiveRay n (named vectors zeros) (vector_at vectors l) q → k < length zeros
+            → form n (entry q) (coordinate (vector_at vectors (name_at given k))) ≡ pos 0
         zero_at q Q h =
             ap (λ (k : ℕ). form n (entry q) (coordinate (vector_at vectors k))) (given_zero k h)
             ∙ ap (λ (v : List ℕ). form n (entry q) (coordinate v)) (sym (named_at vectors zeros k h))
@@ -163,11 +167,14 @@ module _ (n : ℕ) (vectors : List (List ℕ)) (zeros : List ℕ) (l : ℕ) (B :
         nothing : (x y : ℤ) → x *ℤ pos 0 ≡ y *ℤ pos 0
         nothing x y = simp expand
 
-        by : ((k < length zeros) ⊎ (k ≡ length zeros)) → b *ℤ form n (entry r) (coordinate (vector_at vectors (name_at given k))) ≡ a *ℤ form n (entry s) (coordinate (vector_at vectors (name_at given k)))
+        by : ((k < length zeros) ⊎ (k ≡ length zeros))
+            → b *ℤ form n (entry r) (coordinate (vector_at vectors (name_at given k)))
+            ≡ a *ℤ form n (entry s) (coordinate (vector_at vectors (name_at given k)))
         by (inl h) = ap (λ (z : ℤ). b *ℤ z) (zero_at r R h) ∙ nothing b a ∙ ap (λ (z : ℤ). a *ℤ z) (sym (zero_at s S h))
         by (inr e) =
             let last : name_at given k ≡ l = ap (name_at given) e ∙ given_last in
-            ap (λ (m : ℕ). b *ℤ form n (entry r) (coordinate (vector_at vectors m))) last ∙ swap b a ∙ ap (λ (m : ℕ). a *ℤ form n (entry s) (coordinate (vector_at vectors m))) (sym last)
+            ap (λ (m : ℕ). b *ℤ form n (entry r) (coordinate (vector_at vectors m))) last ∙ *ℤ_comm b a
+            ∙ ap (λ (m : ℕ). a *ℤ form n (entry s) (coordinate (vector_at vectors m))) (sym last)
 
     entries_agree : (i j : ℕ) → i < n → j < n → b *ℤ entry r i j ≡ a *ℤ entry s i j
     entries_agree =
@@ -196,7 +203,8 @@ module _ (n : ℕ) (vectors : List (List ℕ)) (zeros : List ℕ) (l : ℕ) (B :
         same_record r s (R.size ∙ sym S.size) (lists_same r.lower s.lower (long_r ∙ sym long_s) (λ k h.
         same_multiples p.0 q.0 r.lower s.lower p.1 q.1 (long_r ∙ sym long_s) R.primitive S.primitive
         (λ k h. subst (λ (x : ℤ). x *ℤ slice_index_or r.lower k (pos 0) ≡ pos p.0 *ℤ slice_index_or s.lower k (pos 0)) q.2
-        (subst (λ (y : ℤ). b *ℤ slice_index_or r.lower k (pos 0) ≡ y *ℤ slice_index_or s.lower k (pos 0)) p.2 (numbers_agree k (omega arith)))) k (omega arith)))
+        (subst (λ (y : ℤ). b *ℤ slice_index_or r.lower k (pos 0) ≡ y *ℤ slice_index_or s.lower k (pos 0)) p.2 (numbers_agree k (omega arith)))) k
+        (omega arith)))
       where
         whole_part : (z : ℤ) → pos 1 ≤ℤ z → (m : ℕ) × (0 < m) × (z ≡ pos m)
         whole_part (pos m) h = (m, omega (arith, ints), refl)
@@ -209,4 +217,5 @@ module _ (n : ℕ) (vectors : List (List ℕ)) (zeros : List ℕ) (l : ℕ) (B :
         lists_same [] [] e h = refl
         lists_same [] (y ∷ ys) e h = absurd (omega arith)
         lists_same (x ∷ xs) [] e h = absurd (omega arith)
-        lists_same (x ∷ xs) (y ∷ ys) e h = ap₂ (λ (a : ℤ) (b : List ℤ). a ∷ b) (h 0 (omega arith)) (lists_same xs ys (omega arith) (λ k l. h (suc k) (omega arith)))
+        lists_same (x ∷ xs) (y ∷ ys) e h =
+            ap₂ (λ (a : ℤ) (b : List ℤ). a ∷ b) (h 0 (omega arith)) (lists_same xs ys (omega arith) (λ k l. h (suc k) (omega arith)))

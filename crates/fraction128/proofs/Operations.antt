@@ -1,5 +1,6 @@
 -- An operation at the head of a list: what it answers where it fits, and where it does not.
-use Rattle.std.specs.Prelude.{◌≡◌, ℕ, ◌-◌, ◌*◌, ◌^◌, ◌<◌, ◌≤◌, ◌↔◌, suc, ℤ, pos, negsuc, neg_ℤ, ◌-ℤ◌, ◌*ℤ◌, ◌≤ℤ◌, nat_abs, nat_lt, Bool, true, false, List, [], ◌∷◌, Ok, Err, if◌then◌else◌}
+use Rattle.std.specs.Prelude.{◌≡◌, ℕ, ◌-◌, ◌*◌, ◌^◌, ◌<◌, ◌≤◌, ◌↔◌, suc, ℤ, pos, negsuc, neg_ℤ, ◌-ℤ◌, ◌*ℤ◌, ◌≤ℤ◌, nat_abs, nat_lt, Bool, true, false, List, []}
+use Rattle.std.specs.Prelude.{◌∷◌, Ok, Err, if◌then◌else◌}
 use Rattle.std.proofs.Common.{arith, ◌∙◌, ap, refl, eqb, eqb-true, eq-eqb, to_z, of_z, to_z-of_z}
 use Rattle.std.proofs.lemmas.Bool.Decides.{nat_tests}
 use Rattle.std.proofs.lemmas.Int.{ints, unsigned_abs-mul, fits_signed_from_abs}
@@ -17,7 +18,8 @@ pub beyond : (n : ℕ) → nat_lt (2 ^ 127 - 1) n ≡ false → n < 2 ^ 127
 beyond n h = grind (arith, nat_tests)
 
 -- what fits is passed over
-pub passed_over : {V : Type 0} (op : IntOp) (ops : List IntOp) (v : V) → nat_abs (exact_result op) < 2 ^ 127 → answer is_owed (op ∷ ops) v ≡ answer is_owed ops v
+pub passed_over : {V : Type 0} (op : IntOp) (ops : List IntOp) (v : V) → nat_abs (exact_result op) < 2 ^ 127
+    → answer is_owed (op ∷ ops) v ≡ answer is_owed ops v
 unfolding answer
 passed_over op ops v h = ap (λ (b : Bool). if b then Err op else answer is_owed ops v) (within (nat_abs (exact_result op)) h)
 
@@ -43,7 +45,8 @@ made {V} op n ops v h = by (is_owed op) refl h
         record { is = is; fits = (rw is fits); rest = passed_over op ops v fits }
 
 -- an operation that was refused
-pub refused : {V : Type 0} (op err : IntOp) (ops : List IntOp) (v : V) → answer is_owed (op ∷ []) (exact_result op) ≡ Err err → answer is_owed (op ∷ ops) v ≡ Err err
+pub refused : {V : Type 0} (op err : IntOp) (ops : List IntOp) (v : V) → answer is_owed (op ∷ []) (exact_result op) ≡ Err err
+    → answer is_owed (op ∷ ops) v ≡ Err err
 unfolding answer
 refused {V} op err ops v h = by (is_owed op) h
   where

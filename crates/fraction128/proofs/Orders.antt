@@ -57,10 +57,12 @@ none_times s b e = ap (λ n. n * b) e ∙ (omega arith)
 pub at_end : (r b s d : ℕ) → 0 < b → 0 < d → (r ≡ 0) ⊎ (s ≡ 0) → nat_cmp r s ≡ nat_cmp (r * d) (s * b)
 at_end r b s d pb pd (inl e) =
     let none : r * d ≡ 0 = none_times r d e in
-    same_rank r s (r * d) (s * b) (λ h. let some : 0 < s * b = mul-pos (omega arith) pb in omega arith) (λ h. none ∙ sym (none_times s b (sym h ∙ e))) (λ h. absurd (omega arith))
+    same_rank r s (r * d) (s * b) (λ h. let some : 0 < s * b = mul-pos (omega arith) pb in omega arith) (λ h. none
+    ∙ sym (none_times s b (sym h ∙ e))) (λ h. absurd (omega arith))
 at_end r b s d pb pd (inr e) =
     let none : s * b ≡ 0 = none_times s b e in
-    same_rank r s (r * d) (s * b) (λ h. absurd (omega arith)) (λ h. none_times r d (h ∙ e) ∙ sym none) (λ h. let some : 0 < r * d = mul-pos (omega arith) pd in omega arith)
+    same_rank r s (r * d) (s * b) (λ h. absurd (omega arith)) (λ h. none_times r d (h ∙ e) ∙ sym none) (λ h. let some : 0 < r * d = mul-pos (omega arith) pd in
+    omega arith)
 
 pub turned : (r s b d : ℕ) → nat_cmp (r * d) (s * b) ≡ nat_cmp (d * r) (b * s)
 turned r s b d = ap₂ nat_cmp (mul_comm r d) (mul_comm s b)
@@ -71,11 +73,13 @@ pub order_same_den : (a c d : ℤ) → pos 1 ≤ℤ d → int_cmp a c ≡ int_cm
 order_same_den a c d hd = same_rank_ℤ a c (a *ℤ d) (c *ℤ d) (below a c) (λ e. ap (λ (z : ℤ). z *ℤ d) e) (below c a)
   where
     below : (x y : ℤ) → x <ℤ y → (x *ℤ d) <ℤ (y *ℤ d)
-    below x y h = let p : pos 1 ≤ℤ ((y -ℤ x) *ℤ d) = positive_mul (y -ℤ x) d (omega (arith, ints)) hd in let q = simp expand at p in simp expand (omega (arith, linear))
+    below x y h = let p : pos 1 ≤ℤ ((y -ℤ x) *ℤ d) = positive_mul (y -ℤ x) d (omega (arith, ints)) hd in let q = simp expand at p in
+        simp expand (omega (arith, linear))
 
 -- ---- what the answer says
 pub order_of_ranks : (x y : Rational) (r : Ordering) → r ≡ order_of x y → MatchOrdering r (x <ℚ y) (x ≡ y) (y <ℚ x)
 unfolding order_of
 order_of_ranks x y r e =
     subst (λ r. MatchOrdering r (x <ℚ y) (x ≡ y) (y <ℚ x)) (sym e)
-    (each_case (int_cmp (x.num *ℤ pos y.den) (y.num *ℤ pos x.den)) (λ h. record { crosswise = h }) (same_rational x y) (λ h. record { crosswise = h }) (int_ranks (x.num *ℤ pos y.den) (y.num *ℤ pos x.den)))
+    (each_case (int_cmp (x.num *ℤ pos y.den) (y.num *ℤ pos x.den)) (λ h. record { crosswise = h }) (same_rational x y) (λ h. record { crosswise = h })
+    (int_ranks (x.num *ℤ pos y.den) (y.num *ℤ pos x.den)))

@@ -1,5 +1,5 @@
 -- The recipe of a product of fractions.
-use Rattle.std.specs.Prelude.{◌≡◌, ℕ, zero, suc, ◌*◌, ◌/◌, ◌<◌, ℤ, pos, negsuc, nat_abs, ◌*ℤ◌, ◌≤ℤ◌, [], ◌∷◌, Ok, Err}
+use Rattle.std.specs.Prelude.{◌≡◌, ℕ, zero, suc, ◌*◌, ◌/◌, ◌<◌, ℤ, pos, negsuc, nat_abs, ◌*ℤ◌, ◌≤ℤ◌, Result, [], ◌∷◌, Ok, Err}
 use Rattle.std.proofs.Common.{arith, sym, ◌∙◌, ap, ap₂, refl, mul-pos}
 use Rattle.std.proofs.lemmas.Int.{ints, unsigned_abs-mul}
 use Prim.Native.Nat.{◌∣◌}
@@ -11,6 +11,7 @@ use Rattle.commutative_ring.proofs.Lowest.{nat_abs-divided}
 use Rattle.commutative_ring.proofs.Ring.{ring, v0, v1, v2, v3, v4, v5, ◌⊗◌}
 use Rattle.exact_forms.specs.Rational.{Rational, ratio, ◌*ℚ◌}
 use Rattle.exact_forms.specs.Lowest.{IsLowest}
+use Rattle.exact_forms.proofs.Lowest.{parts_of}
 use Rattle.exact_forms.proofs.Rational.{ratio_same, divided_times, den_positive, num_den_lowest}
 use Rattle.symmetric_matrix.specs.declared.operation.IntOp.{IntOp}
 use Rattle.symmetric_matrix.specs.Owed.{answer}
@@ -30,15 +31,28 @@ part_positive n g p h = some n (n / g) g p (div-mul_cancel g h)
     some n zero g p e = absurd (omega arith)
     some n (suc q) g p e = omega arith
 
+-- the parts of two fractions
+pub both_parts : {n d m e : ℤ} {x y : Rational} → IsLowest n d → ratio n (nat_abs d) ≡ x → IsLowest m e → ratio m (nat_abs e) ≡ y
+    → (n ≡ x.num) × (d ≡ pos x.den) × (m ≡ y.num) × (e ≡ pos y.den)
+both_parts {n} {d} {m} {e} {x} {y} h i k j = let l = parts_of n d x h i in let r = parts_of m e y k j in (l.0, l.1, r.0, r.1)
+
 abbrev pub num_op : Rational → Rational → IntOp
 num_op x y = mul_op (divided x.num (gcd_of (nat_abs x.num) y.den)) (divided y.num (gcd_of (nat_abs y.num) x.den))
 
 abbrev pub den_op : Rational → Rational → IntOp
 den_op x y = mul_op (pos (x.den / gcd_of (nat_abs y.num) x.den)) (pos (y.den / gcd_of (nat_abs x.num) y.den))
 
+-- what the two operations answered
+abbrev pub IsNumMade : Rational → Rational → Result ℤ IntOp → Type 0
+IsNumMade x y r = answer is_owed (num_op x y ∷ []) (exact_result (num_op x y)) ≡ r
+
+abbrev pub IsDenMade : Rational → Rational → Result ℤ IntOp → Type 0
+IsDenMade x y r = answer is_owed (den_op x y ∷ []) (exact_result (den_op x y)) ≡ r
+
 den_parts : (x y : Rational) → 0 < x.den / gcd_of (nat_abs y.num) x.den * (y.den / gcd_of (nat_abs x.num) y.den)
 den_parts x y =
-    mul-pos (part_positive x.den _ (den_positive x) (gcd_of_is (nat_abs y.num) x.den).1) (part_positive y.den _ (den_positive y) (gcd_of_is (nat_abs x.num) y.den).1)
+    mul-pos (part_positive x.den _ (den_positive x) (gcd_of_is (nat_abs y.num) x.den).1)
+    (part_positive y.den _ (den_positive y) (gcd_of_is (nat_abs x.num) y.den).1)
 
 -- what the recipe makes is the product
 product_is : (x y : Rational) → ratio (exact_result (num_op x y)) (nat_abs (exact_result (den_op x y))) ≡ x *ℚ y
@@ -51,9 +65,11 @@ product_is x y =
     let b : ℕ = x.den / h in
     let d : ℕ = y.den / g in
     ratio_same (a *ℤ c) (x.num *ℤ y.num) (b * d) (x.den * y.den) (den_parts x y) (mul-pos (den_positive x) (den_positive y))
-    (ap₂ (λ (m : ℕ) (n : ℕ). a *ℤ c *ℤ pos (m * n)) (sym (div-mul_cancel h (gcd_of_is (nat_abs y.num) x.den).1)) (sym (div-mul_cancel g (gcd_of_is (nat_abs x.num) y.den).1))
+    (ap₂ (λ (m : ℕ) (n : ℕ). a *ℤ c *ℤ pos (m * n)) (sym (div-mul_cancel h (gcd_of_is (nat_abs y.num) x.den).1))
+    (sym (div-mul_cancel g (gcd_of_is (nat_abs x.num) y.den).1))
     ∙ ring (a ∷ c ∷ pos b ∷ pos d ∷ pos g ∷ pos h ∷ []) (v0 ⊗ v1 ⊗ (v2 ⊗ v5 ⊗ (v3 ⊗ v4))) (v0 ⊗ v4 ⊗ (v1 ⊗ v5) ⊗ (v2 ⊗ v3)) refl
-    ∙ ap₂ (λ (m : ℤ) (n : ℤ). m *ℤ n *ℤ pos (b * d)) (divided_back x.num g (gcd_of_is (nat_abs x.num) y.den).0) (divided_back y.num h (gcd_of_is (nat_abs y.num) x.den).0))
+    ∙ ap₂ (λ (m : ℤ) (n : ℤ). m *ℤ n *ℤ pos (b * d)) (divided_back x.num g (gcd_of_is (nat_abs x.num) y.den).0)
+    (divided_back y.num h (gcd_of_is (nat_abs y.num) x.den).0))
 
 -- in lowest terms
 product_is_lowest : (x y : Rational) → gcd_of (nat_abs (exact_result (num_op x y))) (nat_abs (exact_result (den_op x y))) ≡ 1
@@ -68,8 +84,7 @@ pub record IsProduct (x y : Rational) (n e : ℤ) : Type 0 where
   pub lowest : IsLowest n e
   pub answered : answer is_owed (mul_ops x y) (x *ℚ y) ≡ Ok (ratio n (nat_abs e))
 
-pub product_done : (x y : Rational) (n e : ℤ) → answer is_owed (num_op x y ∷ []) (exact_result (num_op x y)) ≡ Ok n → answer is_owed (den_op x y ∷ []) (exact_result (den_op x y)) ≡ Ok e
-    → IsProduct x y n e
+pub product_done : (x y : Rational) (n e : ℤ) → IsNumMade x y (Ok n) → IsDenMade x y (Ok e) → IsProduct x y n e
 unfolding mul_ops answer
 product_done x y n e h k =
     let num : IsMade (num_op x y) n (den_op x y ∷ []) (x *ℚ y) = made (num_op x y) n (den_op x y ∷ []) (x *ℚ y) h in
@@ -80,12 +95,12 @@ product_done x y n e h k =
       answered = num.rest ∙ den.rest ∙ ap Ok (sym (product_is x y) ∙ ap₂ (λ (n : ℤ) (e : ℤ). ratio n (nat_abs e)) (sym num.is) (sym den.is));
     }
 
-pub num_refused : (x y : Rational) (err : IntOp) → answer is_owed (num_op x y ∷ []) (exact_result (num_op x y)) ≡ Err err → answer is_owed (mul_ops x y) (x *ℚ y) ≡ Err err
+pub num_refused : (x y : Rational) (err : IntOp) → IsNumMade x y (Err err) → answer is_owed (mul_ops x y) (x *ℚ y) ≡ Err err
 unfolding mul_ops
 num_refused x y err h = refused (num_op x y) err (den_op x y ∷ []) (x *ℚ y) h
 
-pub den_refused : (x y : Rational) (n : ℤ) (err : IntOp) → answer is_owed (num_op x y ∷ []) (exact_result (num_op x y)) ≡ Ok n
-    → answer is_owed (den_op x y ∷ []) (exact_result (den_op x y)) ≡ Err err → answer is_owed (mul_ops x y) (x *ℚ y) ≡ Err err
+pub den_refused : (x y : Rational) (n : ℤ) (err : IntOp) → IsNumMade x y (Ok n) → IsDenMade x y (Err err)
+    → answer is_owed (mul_ops x y) (x *ℚ y) ≡ Err err
 unfolding mul_ops
 den_refused x y n err h k =
     let num : IsMade (num_op x y) n (den_op x y ∷ []) (x *ℚ y) = made (num_op x y) n (den_op x y ∷ []) (x *ℚ y) h in

@@ -22,6 +22,8 @@ abbrev pub HasSizes : ℕ → ℕ → Table → Type 0
 HasSizes rows width t = (rows_of t ≡ rows) × (t.width ≡ width)
 
 -- an exchange keeps them, made or refused
-pub sizes_after : {V E : Type 0} (r : Result V E) (rows width i j : ℕ) (t u : Table) → HasSizes rows width t → IfOk r (λ _. u ≡ exchanged t i j) → IfErr r (λ _. u ≡ t) → HasSizes rows width u
-sizes_after (Ok v) rows width i j t u h made kept = (ap rows_of made ∙ exchanged_rows t i j ∙ h.0, ap (λ (t : Table). t.width) made ∙ exchanged_width t i j ∙ h.1)
+pub sizes_after : {V E : Type 0} (r : Result V E) (rows width i j : ℕ) (t u : Table) → HasSizes rows width t → IfOk r (λ _. u ≡ exchanged t i j)
+    → IfErr r (λ _. u ≡ t) → HasSizes rows width u
+sizes_after (Ok v) rows width i j t u h made kept =
+    (ap rows_of made ∙ exchanged_rows t i j ∙ h.0, ap (λ (t : Table). t.width) made ∙ exchanged_width t i j ∙ h.1)
 sizes_after (Err e) rows width i j t u h made kept = (ap rows_of kept ∙ h.0, ap (λ (t : Table). t.width) kept ∙ h.1)

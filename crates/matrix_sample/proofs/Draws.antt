@@ -1,7 +1,9 @@
 -- Laws of the recurrence and of what it draws.
-use Rattle.std.proofs.Common.{◌≡◌, ℕ, zero, suc, ◌+◌, ◌*◌, ◌/◌, ◌%◌, ◌<◌, ◌≤◌, ◌⊎◌, List, length, set, slice_index_or, refl, sym, ap, ◌∙◌, inl, inr, arith, get_or-set_same, get_or-set_other}
+use Rattle.std.proofs.Common.{◌≡◌, ℕ, zero, suc, ◌+◌, ◌*◌, ◌/◌, ◌%◌, ◌<◌, ◌≤◌, ◌⊎◌, List, length, set, slice_index_or, refl, sym, ap, ◌∙◌, inl, inr, arith}
+use Rattle.std.proofs.Common.{get_or-set_same, get_or-set_other}
 use Rattle.std.proofs.Math.Nat.{mod-add-mod}
 use Rattle.std.proofs.lemmas.Nat.{mod_below}
+use Rattle.commutative_ring.proofs.SmallCases.{here_or_before}
 use Rattle.matrix_sample.specs.Samples.{number_after, number_at, coordinate_from}
 
 -- the product may be taken modulo 2^64 first
@@ -40,9 +42,6 @@ pub filled_more : (xs : List ℕ) (i x : ℕ) (f : ℕ → ℕ) → i < length x
     → (p : ℕ) → p < i + 1 → slice_index_or (set xs i x) p 0 ≡ f p
 filled_more xs i x f l e h p lp = by (here_or_before p i lp)
   where
-    here_or_before : (p i : ℕ) → p < i + 1 → (p ≡ i) ⊎ (p < i)
-    here_or_before p i l = grind arith
-
     by : ((p ≡ i) ⊎ (p < i)) → slice_index_or (set xs i x) p 0 ≡ f p
     by (inl s) = rw s (get_or-set_same xs i x 0 l ∙ e)
     by (inr m) = get_or-set_other xs i p x 0 (omega arith) ∙ h p m

@@ -1,10 +1,12 @@
 -- The sums of a sample, entry by entry of a lower triangle.
-use Rattle.std.proofs.Common.{◌≡◌, ℕ, zero, suc, ◌+◌, ◌*◌, ◌/◌, ◌<◌, ◌≤◌, ◌⊎◌, ℤ, pos, ◌+ℤ◌, ◌≤ℤ◌, List, length, set, take, map, replicate, slice_index_or, refl, sym, ap, ap₂, ◌∙◌, inl, inr, arith, get_or-set_same, get_or-set_other}
+use Rattle.std.proofs.Common.{◌≡◌, ℕ, zero, suc, ◌+◌, ◌*◌, ◌/◌, ◌<◌, ◌≤◌, ◌⊎◌, ℤ, pos, ◌+ℤ◌, ◌≤ℤ◌, List, length, set, take, map, replicate, slice_index_or}
+use Rattle.std.proofs.Common.{refl, sym, ap, ap₂, ◌∙◌, inl, inr, arith, get_or-set_same, get_or-set_other}
 use Rattle.std.proofs.lemmas.Int.{ints}
 use Rattle.std.proofs.lemmas.Nat.{mul-le}
 use Rattle.std.proofs.lemmas.List.{length-map, length-take-le, get_or-take, take_all}
 use Rattle.std.proofs.Math.ListN.{get_or-map}
 use Rattle.std.proofs.Math.Nat.{mul_comm}
+use Rattle.commutative_ring.proofs.SmallCases.{at_least_or_at_most, here_or_before}
 use Rattle.exact_forms.specs.Rational.{Rational, whole}
 use Rattle.exact_forms.specs.Triangles.{triangle, entry_in}
 use Rattle.exact_forms.proofs.Sums.{sum_to-zero, sum_to-suc, sum_to_more, sum_to_same}
@@ -46,9 +48,6 @@ pub part_more : (xs old : List ℕ) (start column : ℕ) (f : ℕ → ℕ) → s
     → (j : ℕ) → j < column + 1 → slice_index_or (added_at xs (start + column) (f column)) (start + j) 0 ≡ slice_index_or old (start + j) 0 + f j
 part_more xs old start column f l done after j lj = by (here_or_before j column lj)
   where
-    here_or_before : (j column : ℕ) → j < column + 1 → (j ≡ column) ⊎ (j < column)
-    here_or_before j column l = grind arith
-
     by : ((j ≡ column) ⊎ (j < column)) → slice_index_or (added_at xs (start + column) (f column)) (start + j) 0 ≡ slice_index_or old (start + j) 0 + f j
     by (inl same) =
         rw same (get_or-set_same xs (start + column) (slice_index_or xs (start + column) 0 + f column) 0 l
@@ -65,9 +64,6 @@ pub rows_more : (old xs new : List ℕ) (row : ℕ) (f : ℕ → ℕ → ℕ)
     → (i j : ℕ) → j ≤ i → i < row + 1 → slice_index_or new (triangle i + j) 0 ≡ slice_index_or old (triangle i + j) 0 + f i j
 rows_more old xs new row f done after added before i j lj li = by (here_or_before i row li)
   where
-    here_or_before : (i row : ℕ) → i < row + 1 → (i ≡ row) ⊎ (i < row)
-    here_or_before i row l = grind arith
-
     by : ((i ≡ row) ⊎ (i < row)) → slice_index_or new (triangle i + j) 0 ≡ slice_index_or old (triangle i + j) 0 + f i j
     by (inl same) = rw same (added j (omega arith) ∙ ap (λ (x : ℕ). x + f row j) (after (triangle row + j) (omega arith)))
     by (inr less) = before (triangle i + j) (entry_before i j row lj less) ∙ done i j lj less
@@ -133,7 +129,7 @@ unfolding rational_entry
 is_sample n k first sums lower low high long same e = rw e record {
   size = refl;
   matrix = record { positive = low; small = omega arith; triangle = size };
-  entries = λ i j li lj. either i j li lj (order i j);
+  entries = λ i j li lj. either i j li lj (at_least_or_at_most i j);
 }
   where
     size : length (map (λ (s : ℕ). whole (pos s)) (take (triangle n) sums)) ≡ triangle n
@@ -146,9 +142,6 @@ is_sample n k first sums lower low high long same e = rw e record {
         ∙ get_or-map (λ (s : ℕ). whole (pos s)) (take (triangle n) sums) (triangle i + j) 0
         ∙ ap (λ (s : ℕ). whole (pos s)) (get_or-take (triangle n) sums (triangle i + j) 0 (entry_before i j n lj li))
         ∙ ap whole (same i j lj li)
-
-    order : (i j : ℕ) → (j ≤ i) ⊎ (i ≤ j)
-    order i j = grind arith
 
     either : (i j : ℕ) → i < n → j < n → ((j ≤ i) ⊎ (i ≤ j))
         → entry_in (whole (pos 0)) (map (λ (s : ℕ). whole (pos s)) (take (triangle n) sums)) i j ≡ whole (sample_sum n k first i j)

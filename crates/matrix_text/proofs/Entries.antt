@@ -16,7 +16,8 @@ entry_sorted none xs i j = elim (cases_lt i j) [
 ]
 
 -- what is read there
-pub read_is_entry : {A : Type 0} (none x : A) (xs : List A) (n r c k : ℕ) → length xs ≡ triangle n → 1 ≤ r → r ≤ n → 1 ≤ c → c ≤ n → k ≡ triangle (max r c - 1) + (min r c - 1)
+pub read_is_entry : {A : Type 0} (none x : A) (xs : List A) (n r c k : ℕ) → length xs ≡ triangle n → 1 ≤ r → r ≤ n → 1 ≤ c → c ≤ n
+    → k ≡ triangle (max r c - 1) + (min r c - 1)
     → x ≡ get_or xs k x → x ≡ entry_in none xs (r - 1) (c - 1)
 read_is_entry none x xs n r c k len low high first last e is =
     let a : max (r - 1) (c - 1) ≡ max r c - 1 = omega arith in

@@ -1,5 +1,5 @@
 -- The text that is written of a matrix is a text of that matrix.
-use Rattle.std.proofs.Common.{◌≡◌, ℕ, zero, suc, ◌+◌, true, List, [], ◌∷◌, length, get_or, map, pos, Result, Ok, refl, ap, ap₂, ◌∙◌, inl, inr, arith, lit≤}
+use Rattle.std.proofs.Common.{◌≡◌, ℕ, suc, ◌+◌, true, List, [], ◌∷◌, length, get_or, map, pos, Result, Ok, refl, ap, ap₂, ◌∙◌, inl, inr, arith, lit≤}
 use Rattle.std.specs.Prelude.{◌&&◌}
 use Rattle.std.specs.Bool.{Decides}
 use Rattle.std.specs.List.{All, AllByRecursion, range_with_len}
@@ -11,6 +11,7 @@ use Rattle.commutative_ring.specs.Gcd.{gcd_of, gcd_steps}
 use Rattle.exact_forms.specs.Rational.{Rational, ratio, whole}
 use Rattle.exact_forms.specs.Triangles.{triangle, entry_in}
 use Rattle.exact_forms.proofs.Rational.{same_parts}
+use Rattle.exact_forms.proofs.Lists.{each_of_range}
 use Rattle.text_lines.specs.Square.{lower_of, full, first_unlike}
 use Rattle.matrix_text.specs.RationalMatrix.{RationalMatrix, IsRationalMatrix}
 use Rattle.matrix_text.specs.Matrix.{none, same_number, entries_of, mirrored, matrix_of, MatrixText}
@@ -20,7 +21,11 @@ use Rattle.text_lines.proofs.Squares.{square-full, lower-full, full-mirrored, mi
 use Rattle.matrix_text.proofs.Tables.{IsShortRow, text_rows_from, table-read}
 
 pub Decides-same_number : (x y : Rational) → Decides (same_number x y) (x ≡ y)
-Decides-same_number x y = (same, λ e. ap₂ (λ a b. a && b) ((Decides-int_eq x.num y.num).1 (ap (λ (q : Rational). q.num) e)) ((Decides-int_eq (pos x.den) (pos y.den)).1 (ap (λ (q : Rational). pos q.den) e)))
+Decides-same_number x y = (
+  same,
+  λ e. ap₂ (λ a b. a && b) ((Decides-int_eq x.num y.num).1 (ap (λ (q : Rational). q.num) e))
+      ((Decides-int_eq (pos x.den) (pos y.den)).1 (ap (λ (q : Rational). pos q.den) e)),
+)
   where
     same : same_number x y ≡ true → x ≡ y
     same e =
@@ -44,15 +49,11 @@ entry_in-short lower i j short = elim (cases_lt i j) [
   | inr le ↦ rw (le-ltb i j le) (entry_short lower (triangle i + j) short)
 ]
 
-each-range : {A : Type 0} (P : A → Type 0) (f : ℕ → A) (a n : ℕ) → ((i : ℕ) → P (f i)) → AllByRecursion P (map f (range_with_len a n))
-each-range P f a zero h = tt
-each-range P f a (suc n) h = (h a, each-range P f (a + 1) n h)
-
 full-short : (n : ℕ) (lower : List Rational) → All IsShort lower → AllByRecursion (IsShortRow n) (full none n lower)
 unfolding full
-full-short n lower short = each-range (IsShortRow n) (λ i. map (λ j. entry_in none lower i j) (range_with_len 0 n)) 0 n (λ i. record {
+full-short n lower short = each_of_range (IsShortRow n) (λ i. map (λ j. entry_in none lower i j) (range_with_len 0 n)) 0 n (λ i. record {
   len = length-map-range_with_len (λ j. entry_in none lower i j) 0 n;
-  short = each-range IsShort (λ j. entry_in none lower i j) 0 n (λ j. entry_in-short lower i j short);
+  short = each_of_range IsShort (λ j. entry_in none lower i j) 0 n (λ j. entry_in-short lower i j short);
 })
 
 -- ---- the text is read again
@@ -71,7 +72,8 @@ rows-matrix : (n : ℕ) (lower : List Rational) → length lower ≡ triangle n
 rows-matrix n lower len =
     let square = square-full none n lower in
     rw (mirrored-alike same_number none n (full none n lower) Decides-same_number square.len (full-mirrored none n lower))
-    (ap₂ made (length-rows 2 (full none n lower) ∙ square.len) (ap (λ (rows : List (List Rational)). lower_of rows) (entries-rows 2 (full none n lower)) ∙ lower-full none n lower len))
+    (ap₂ made (length-rows 2 (full none n lower) ∙ square.len) (ap (λ (rows : List (List Rational)). lower_of rows) (entries-rows 2 (full none n lower))
+    ∙ lower-full none n lower len))
   where
     made : ℕ → List Rational → Result RationalMatrix TextFault
     made size entries = Ok (record { size = size; lower = entries })
@@ -83,5 +85,7 @@ written-read a is short =
     let square = square-full none a.size a.lower in
     let few = short.rows in
     let some = is.positive in
-    let read = table-read (full none a.size a.lower) (rw square.len (omega (arith, some))) (rw square.len (omega (arith, few))) (rw square.len (full-short a.size a.lower short.entries)) in
-    rw read (ap (λ (rows : List (List Rational)). mirrored (text_rows_from 2 (full none a.size a.lower)) (first_unlike same_number none rows)) (entries-rows 2 (full none a.size a.lower)) ∙ rows-matrix a.size a.lower is.triangle)
+    let read = table-read (full none a.size a.lower) (rw square.len (omega (arith, some))) (rw square.len (omega (arith, few)))
+    (rw square.len (full-short a.size a.lower short.entries)) in
+    rw read (ap (λ (rows : List (List Rational)). mirrored (text_rows_from 2 (full none a.size a.lower)) (first_unlike same_number none rows))
+    (entries-rows 2 (full none a.size a.lower)) ∙ rows-matrix a.size a.lower is.triangle)

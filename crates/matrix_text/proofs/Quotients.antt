@@ -9,6 +9,7 @@ use Rattle.std.proofs.lemmas.List.Folds.{length-flat_map-take}
 use Rattle.std.proofs.lemmas.List.FromFn.{length-range_with_len, get_or-range_with_len, length-map-range_with_len, get_or-map-range_with_len}
 use Prim.Native.Nat.{◌∣◌}
 use Rattle.commutative_ring.proofs.Laws.{zero_mul_ℤ}
+use Rattle.commutative_ring.proofs.SmallCases.{at_least_or_at_most}
 use Rattle.exact_forms.specs.Rational.{Rational, ratio, whole}
 use Rattle.exact_forms.specs.Triangles.{entry_in}
 use Rattle.exact_forms.proofs.Lowest.{zero_num}
@@ -88,11 +89,8 @@ divides_below a i j h l =
 
 divides : (a : RationalMatrix) (i j : ℕ) → i < a.size → j < a.size → (rational_entry a i j).den ∣ least_denominator a
 unfolding rational_entry
-divides a i j li lj = by (order i j)
+divides a i j li lj = by (at_least_or_at_most i j)
   where
-    order : (i j : ℕ) → (j ≤ i) ⊎ (i ≤ j)
-    order i j = grind arith
-
     by : ((j ≤ i) ⊎ (i ≤ j)) → (rational_entry a i j).den ∣ least_denominator a
     by (inl h) = divides_below a i j h li
     by (inr h) = subst (λ (q : Rational). q.den ∣ least_denominator a) (entry_in_symmetric (whole (pos 0)) a.lower j i) (divides_below a j i h lj)

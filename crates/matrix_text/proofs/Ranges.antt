@@ -1,5 +1,6 @@
 -- What is read has one to six rows, as many entries in each, and no large number.
-use Rattle.std.proofs.Common.{◌≡◌, ℕ, zero, suc, ◌<◌, ◌≤◌, not, ◌&&◌, ltb, List, [], ◌∷◌, length, Option, Some, None, Result, Ok, Err, codes, refl, sym, ap, subst, ◌∙◌, arith, inl, inr, lit<}
+use Rattle.std.proofs.Common.{◌≡◌, ℕ, zero, suc, ◌<◌, ◌≤◌, not, ◌&&◌, ltb, List, [], ◌∷◌, length, Option, Some, None, Result, Ok, Err, codes, refl, sym, ap}
+use Rattle.std.proofs.Common.{subst, ◌∙◌, arith, inl, inr, lit<}
 use Rattle.std.specs.List.{AllByRecursion}
 use Rattle.std.specs.Str.{bytes_eq}
 use Rattle.std.proofs.lemmas.Bool.{and_parts, ltb-true, cases_Bool}
@@ -14,7 +15,8 @@ use Rattle.text_lines.specs.declared.fractions.NumberFault.{NumberFault}
 use Rattle.text_lines.proofs.Mirrors.{lower-each}
 use Rattle.text_lines.proofs.ReadValues.{bind_ok, guard_ok, ok_is, fraction-within, numbers-each, line-ok}
 use Rattle.matrix_text.specs.RationalMatrix.{RationalMatrix}
-use Rattle.matrix_text.specs.Matrix.{TextRow, number_kind, entry_of_word, row_of_words, rows_of_lines, header_of, size_of_word, fault_at, read_line, table_of, table_of_lines, none, same_number, entries_of, mirrored, matrix_of, MatrixText}
+use Rattle.matrix_text.specs.Matrix.{TextRow, number_kind, entry_of_word, row_of_words, rows_of_lines, header_of, size_of_word, fault_at, read_line, table_of}
+use Rattle.matrix_text.specs.Matrix.{table_of_lines, none, same_number, entries_of, mirrored, matrix_of, MatrixText}
 use Rattle.matrix_text.specs.Canonical.{IsShort, IsShortMatrix}
 use Rattle.matrix_text.specs.declared.fault.TextKind.{TextKind}
 use Rattle.matrix_text.specs.declared.fault.TextKind.TheVariants.{NotAscii, NoHeader, BadVersion, BadDimension, ShortRow, LongRow, ExtraLine}
@@ -73,18 +75,21 @@ rows-short size end zero [] rows e = subst (IsShortTable 0) (ok_is {E = TextFaul
 rows-short size end zero (l ∷ ls) rows e = absurd (nothing rows l e)
 rows-short size end (suc k) [] rows e = absurd cc
 rows-short size end (suc k) (l ∷ ls) rows e =
-    let a = bind_ok (read_line (row_of_words size) l) (λ entries. rows_of_lines size end k ls >>= λ others. Ok (record { line = l.number; entries = entries } ∷ others)) rows e in
+    let a = bind_ok (read_line (row_of_words size) l) (λ entries. rows_of_lines size end k ls
+    >>= λ others. Ok (record { line = l.number; entries = entries } ∷ others)) rows e in
     let b = bind_ok (rows_of_lines size end k ls) (λ others. Ok (record { line = l.number; entries = a.0 } ∷ others)) rows a.2 in
     let r = row-short size (words l.bytes) a.0 (line-ok fault_at NotAscii (row_of_words size) l a.0 a.1) in
     let h = rows-short size end k ls b.0 b.1 in
     let made : TextRow = record { line = l.number; entries = a.0 } in
     subst (IsShortTable (suc k)) (ok_is {E = TextFault} (made ∷ b.0) rows b.2) (ap suc h.0, (r, h.1))
 
-table-short : (text : Content) (rows : List TextRow) → table_of text ≡ Ok rows → (1 ≤ length rows) × (length rows ≤ 6) × AllByRecursion (AllByRecursion IsShort) (entries_of rows)
+table-short : (text : Content) (rows : List TextRow) → table_of text ≡ Ok rows
+    → (1 ≤ length rows) × (length rows ≤ 6) × AllByRecursion (AllByRecursion IsShort) (entries_of rows)
 unfolding table_of
 table-short text rows e = by text.lines e
   where
-    by : (ls : List TextLine) → table_of_lines text.end ls ≡ Ok rows → (1 ≤ length rows) × (length rows ≤ 6) × AllByRecursion (AllByRecursion IsShort) (entries_of rows)
+    by : (ls : List TextLine) → table_of_lines text.end ls ≡ Ok rows
+        → (1 ≤ length rows) × (length rows ≤ 6) × AllByRecursion (AllByRecursion IsShort) (entries_of rows)
     by [] f = absurd cc
     by (l ∷ ls) f =
         let a = bind_ok (read_line header_of l) (λ size. rows_of_lines size text.end size ls) rows f in
@@ -94,7 +99,8 @@ table-short text rows e = by text.lines e
 
 -- ---- the matrix
 
-mirrored-short : (rows : List TextRow) (first : Option ℕ) (a : RationalMatrix) → (1 ≤ length rows) × (length rows ≤ 6) × AllByRecursion (AllByRecursion IsShort) (entries_of rows) → mirrored rows first ≡ Ok a → IsShortMatrix a
+mirrored-short : (rows : List TextRow) (first : Option ℕ) (a : RationalMatrix)
+    → (1 ≤ length rows) × (length rows ≤ 6) × AllByRecursion (AllByRecursion IsShort) (entries_of rows) → mirrored rows first ≡ Ok a → IsShortMatrix a
 mirrored-short rows (Some i) a h e = absurd cc
 mirrored-short rows None a h e = subst IsShortMatrix (ok_is {E = TextFault} (record { size = length rows; lower = lower_of (entries_of rows) }) a e) (record {
   rows = h.1;
@@ -104,15 +110,20 @@ mirrored-short rows None a h e = subst IsShortMatrix (ok_is {E = TextFault} (rec
 pub text-short : (bytes : List ℕ) (a : RationalMatrix) → MatrixText bytes a → IsShortMatrix a
 unfolding MatrixText matrix_of
 text-short bytes a e =
-    let r = bind_ok (table_of (record { lines = content_lines bytes; end = end_line bytes })) (λ rows. mirrored rows (first_unlike same_number none (entries_of rows))) a e in
-    mirrored-short r.0 (first_unlike same_number none (entries_of r.0)) a (table-short (record { lines = content_lines bytes; end = end_line bytes }) r.0 r.1) r.2
+    let r = bind_ok (table_of (record { lines = content_lines bytes; end = end_line bytes }))
+    (λ rows. mirrored rows (first_unlike same_number none (entries_of rows))) a e in
+    mirrored-short r.0 (first_unlike same_number none (entries_of r.0)) a (table-short (record { lines = content_lines bytes; end = end_line bytes }) r.0 r.1)
+    r.2
 
 mirrored-some : (rows : List TextRow) (first : Option ℕ) (a : RationalMatrix) → 1 ≤ length rows → mirrored rows first ≡ Ok a → 1 ≤ a.size
 mirrored-some rows (Some i) a h e = absurd cc
-mirrored-some rows None a h e = subst (λ (m : RationalMatrix). 1 ≤ m.size) (ok_is {E = TextFault} (record { size = length rows; lower = lower_of (entries_of rows) }) a e) h
+mirrored-some rows None a h e =
+    subst (λ (m : RationalMatrix). 1 ≤ m.size) (ok_is {E = TextFault} (record { size = length rows; lower = lower_of (entries_of rows) }) a e) h
 
 pub text-some : (bytes : List ℕ) (a : RationalMatrix) → MatrixText bytes a → 1 ≤ a.size
 unfolding MatrixText matrix_of
 text-some bytes a e =
-    let r = bind_ok (table_of (record { lines = content_lines bytes; end = end_line bytes })) (λ rows. mirrored rows (first_unlike same_number none (entries_of rows))) a e in
-    mirrored-some r.0 (first_unlike same_number none (entries_of r.0)) a (table-short (record { lines = content_lines bytes; end = end_line bytes }) r.0 r.1).0 r.2
+    let r = bind_ok (table_of (record { lines = content_lines bytes; end = end_line bytes }))
+    (λ rows. mirrored rows (first_unlike same_number none (entries_of rows))) a e in
+    mirrored-some r.0 (first_unlike same_number none (entries_of r.0)) a (table-short (record { lines = content_lines bytes; end = end_line bytes }) r.0 r.1).0
+    r.2

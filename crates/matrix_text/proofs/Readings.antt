@@ -20,7 +20,8 @@ unfolding table_entries
 entries-table t = entries-rows t.size (take t.size t.rows)
 
 length-table : (t : Table) → length (table_rows t) ≡ t.size
-length-table t = length-map (take t.size t.rows) (text_row t.size) ∙ length-take-le t.size t.rows (let few = t.few in let room = t.room in omega (arith, few, room))
+length-table t = length-map (take t.size t.rows) (text_row t.size)
+    ∙ length-take-le t.size t.rows (let few = t.few in let room = t.room in omega (arith, few, room))
 
 -- what a table gives, read of the bytes
 pub table-read : (bytes : List ℕ) (t : Table) → table_of (record { lines = content_lines bytes; end = end_line bytes }) ≡ Ok (table_rows t)
@@ -28,13 +29,16 @@ pub table-read : (bytes : List ℕ) (t : Table) → table_of (record { lines = c
 unfolding matrix_of
 table-read bytes t read = rw read (ap (λ (rows : List (List Rational)). mirrored (table_rows t) (first_unlike same_number none rows)) (entries-table t))
 
-pub symmetric-table : (t : Table) (first : Option ℕ) → first ≡ None → mirrored (table_rows t) first ≡ Ok (record { size = t.size; lower = lower_of (table_entries t) })
-symmetric-table t first alike = rw (alike, length-table t) (ap (λ (rows : List (List Rational)). made (record { size = t.size; lower = lower_of rows })) (entries-table t))
+pub symmetric-table : (t : Table) (first : Option ℕ) → first ≡ None
+    → mirrored (table_rows t) first ≡ Ok (record { size = t.size; lower = lower_of (table_entries t) })
+symmetric-table t first alike =
+    rw (alike, length-table t) (ap (λ (rows : List (List Rational)). made (record { size = t.size; lower = lower_of rows })) (entries-table t))
   where
     made : RationalMatrix → Result RationalMatrix TextFault
     made a = Ok a
 
-pub fault-read : (bytes : List ℕ) (fault : TextFault) → table_of (record { lines = content_lines bytes; end = end_line bytes }) ≡ Err fault → MatrixFault bytes fault.kind fault.line
+pub fault-read : (bytes : List ℕ) (fault : TextFault) → table_of (record { lines = content_lines bytes; end = end_line bytes }) ≡ Err fault
+    → MatrixFault bytes fault.kind fault.line
 unfolding matrix_of MatrixFault
 fault-read bytes fault read = rw read refl
 
@@ -52,7 +56,8 @@ one-reading bytes = by (matrix_of bytes) refl
 
         apart : {a : RationalMatrix} {fault : TextFault} → ◌≡◌ {A = Result RationalMatrix TextFault} (Ok a) (Err fault) → ⊥
         apart e = cc
-    by (Err f) is = inr (f, record { fault = is; alone = λ kind line h. same f (record { kind = kind; line = line }) (sym is ∙ h); no_text = λ a h. apart (sym is ∙ h) })
+    by (Err f) is =
+        inr (f, record { fault = is; alone = λ kind line h. same f (record { kind = kind; line = line }) (sym is ∙ h); no_text = λ a h. apart (sym is ∙ h) })
       where
         same : (f g : TextFault) → ◌≡◌ {A = Result RationalMatrix TextFault} (Err f) (Err g) → (g.kind ≡ f.kind) × (g.line ≡ f.line)
         same f g e = (cc, cc)

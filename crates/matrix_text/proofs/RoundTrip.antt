@@ -32,7 +32,9 @@ row-plain [] some h = absurd (omega arith)
 row-plain (q ∷ row) some h = record { some = omega arith; plain = words-plain (q ∷ row) h }
 
 -- the line of a row gives the row
-pub read_line-row : (n k : ℕ) (row : List Rational) → length row ≡ n → AllByRecursion IsShort row → read_line (row_of_words n) (record { number = k; bytes = joined (map fraction_word row) }) ≡ Ok row
+pub read_line-row : (n k : ℕ) (row : List Rational) → length row ≡ n → AllByRecursion IsShort row
+    → read_line (row_of_words n) (record { number = k; bytes = joined (map fraction_word row) }) ≡ Ok row
 read_line-row n k row len h =
     let read : row_of_words n (map fraction_word row) ≡ Ok row = rw (← len) (row-fractions row h) in
-    in_line-joined fault_at NotAscii (row_of_words n) k (map fraction_word row) (words-plain row h) ∙ ap (λ (r : Result (List Rational) TextKind). at_line fault_at k r) read
+    in_line-joined fault_at NotAscii (row_of_words n) k (map fraction_word row) (words-plain row h)
+    ∙ ap (λ (r : Result (List Rational) TextKind). at_line fault_at k r) read

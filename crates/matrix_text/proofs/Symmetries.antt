@@ -16,7 +16,8 @@ row_entries size row = take size row.entries
 
 pub length-entries : (t : Table) → length (table_entries t) ≡ t.size
 unfolding table_entries
-length-entries t = length-map (take t.size t.rows) (row_entries t.size) ∙ length-take-le t.size t.rows (let few = t.few in let room = t.room in omega (arith, few, room))
+length-entries t = length-map (take t.size t.rows) (row_entries t.size)
+    ∙ length-take-le t.size t.rows (let few = t.few in let room = t.room in omega (arith, few, room))
 
 row_at-entries : (t : Table) (i : ℕ) (row : Row) → i < t.size → get_or (table_entries t) i [] ≡ take t.size (get_or t.rows i row).entries
 unfolding table_entries
@@ -26,12 +27,14 @@ row_at-entries t i row lt =
     let len : length (take t.size t.rows) ≡ t.size = length-take-le t.size t.rows (omega (arith, few, room)) in
     get_or-map (row_entries t.size) (take t.size t.rows) i row [] (omega (arith, len)) ∙ ap (row_entries t.size) (get_or-take t.size t.rows i row lt)
 
-pub entry_at-entries : (t : Table) (i j : ℕ) (row : Row) (entry : Rational) → i < t.size → j < t.size → get_or (get_or t.rows i row).entries j entry ≡ entry_at none (table_entries t) i j
+pub entry_at-entries : (t : Table) (i j : ℕ) (row : Row) (entry : Rational) → i < t.size → j < t.size
+    → get_or (get_or t.rows i row).entries j entry ≡ entry_at none (table_entries t) i j
 unfolding entry_at
 entry_at-entries t i j row entry lt left =
     let few = t.few in
     let room = (get_or t.rows i row).room in
-    rw (row_at-entries t i row lt) (get_or_default (get_or t.rows i row).entries j entry none (omega (arith, few, room)) ∙ sym (get_or-take t.size (get_or t.rows i row).entries j none left))
+    rw (row_at-entries t i row lt) (get_or_default (get_or t.rows i row).entries j entry none (omega (arith, few, room))
+    ∙ sym (get_or-take t.size (get_or t.rows i row).entries j none left))
 
 -- the entry at (i, j) is as that at (j, i)
 abbrev pub is_like : Table → ℕ → ℕ → Bool

@@ -29,7 +29,8 @@ text_rows_from k (row ∷ rows) = record { line = k; entries = row } ∷ text_ro
 abbrev row_words : List (List Rational) → List (List (List ℕ))
 row_words rows = map (λ row. map fraction_word row) rows
 
-rows-read : (n end k : ℕ) (rows : List (List Rational)) → AllByRecursion (IsShortRow n) rows → rows_of_lines n end (length rows) (numbered k (row_words rows)) ≡ Ok (text_rows_from k rows)
+rows-read : (n end k : ℕ) (rows : List (List Rational)) → AllByRecursion (IsShortRow n) rows
+    → rows_of_lines n end (length rows) (numbered k (row_words rows)) ≡ Ok (text_rows_from k rows)
 unfolding rows_of_lines
 rows-read n end k [] h = refl
 rows-read n end k (row ∷ rows) h = rw (read_line-row n k row h.0.len h.0.short, rows-read n end (k + 1) rows h.1) refl
@@ -44,10 +45,12 @@ unfolding header_of size_of_word
 header-read n some small = rw (is_whole-decimal n (omega arith), whole_value-decimal n (omega arith), lt-ltb 0 n some, lt-ltb n 7 small) refl
 
 header-plain : (n : ℕ) → n < 7 → IsPlainLine (header_words n)
-header-plain n small = record { some = omega arith; plain = (plain-codes (codes "cpmatrix") refl, (plain-codes (codes "1") refl, (plain-decimal n (omega arith), tt))) }
+header-plain n small =
+    record { some = omega arith; plain = (plain-codes (codes "cpmatrix") refl, (plain-codes (codes "1") refl, (plain-decimal n (omega arith), tt))) }
 
 read_line-header : (n k : ℕ) → 0 < n → n < 7 → read_line header_of (record { number = k; bytes = joined (header_words n) }) ≡ Ok n
-read_line-header n k some small = in_line-joined fault_at NotAscii header_of k (header_words n) (header-plain n small).plain ∙ ap (λ (r : Result ℕ TextKind). at_line fault_at k r) (header-read n some small)
+read_line-header n k some small = in_line-joined fault_at NotAscii header_of k (header_words n) (header-plain n small).plain
+    ∙ ap (λ (r : Result ℕ TextKind). at_line fault_at k r) (header-read n some small)
 
 -- ---- the text
 
@@ -65,6 +68,8 @@ pub table-read : (rows : List (List Rational)) → 0 < length rows → length ro
     → table_of (record { lines = content_lines (table_text rows); end = end_line (table_text rows) }) ≡ Ok (text_rows_from 2 rows)
 unfolding table_of table_text
 table-read rows some small h =
-    let whole : table_text rows ≡ flat_map line_of_words (header_words (length rows) ∷ row_words rows) = ap (λ (t : List ℕ). line_of_words (header_words (length rows)) ++ t) (rows-text rows) in
-    let content : content_lines (table_text rows) ≡ numbered 1 (header_words (length rows) ∷ row_words rows) = ap content_lines whole ∙ content_lines-written (header_words (length rows) ∷ row_words rows) (header-plain (length rows) small, rows-plain (length rows) rows some h) in
+    let whole : table_text rows ≡ flat_map line_of_words (header_words (length rows) ∷ row_words rows) =
+    ap (λ (t : List ℕ). line_of_words (header_words (length rows)) ++ t) (rows-text rows) in
+    let content : content_lines (table_text rows) ≡ numbered 1 (header_words (length rows) ∷ row_words rows) = ap content_lines whole
+    ∙ content_lines-written (header_words (length rows) ∷ row_words rows) (header-plain (length rows) small, rows-plain (length rows) rows some h) in
     rw (content, read_line-header (length rows) 1 some small, rows-read (length rows) (end_line (table_text rows)) 2 rows h) refl

@@ -45,7 +45,8 @@ abbrev pub at_place : PlacedEntry → IntOp → PlacedOp
 at_place p op = record { row = p.row; column = p.column; op = op }
 
 unfoldable pub placed_row : RationalMatrix → ℕ → List PlacedEntry
-placed_row a i = map (λ j. record { row = i + 1; column = j + 1; value = rational_entry a i j }) (range_with_len 0 (i + 1))
+placed_row a i =
+    map (λ j. record { row = i + 1; column = j + 1; value = rational_entry a i j }) (range_with_len 0 (i + 1))
 
 unfoldable pub placed_entries : RationalMatrix → List PlacedEntry
 placed_entries a = flat_map (placed_row a) (range_with_len 0 a.size)
@@ -56,7 +57,8 @@ common_multiple e (p ∷ ps) = common_multiple (multiple e p.value.den) ps
 
 unfoldable pub denominator_ops : ℕ → List PlacedEntry → List PlacedOp
 denominator_ops e [] = []
-denominator_ops e (p ∷ ps) = at_place p (mul_op (pos e) (pos (p.value.den / gcd_of e p.value.den))) ∷ denominator_ops (multiple e p.value.den) ps
+denominator_ops e (p ∷ ps) =
+    at_place p (mul_op (pos e) (pos (p.value.den / gcd_of e p.value.den))) ∷ denominator_ops (multiple e p.value.den) ps
 
 unfoldable pub numerator_ops : ℕ → List PlacedEntry → List PlacedOp
 numerator_ops d ps = map (λ p. at_place p (mul_op p.value.num (pos (d / p.value.den)))) ps
@@ -71,7 +73,8 @@ unfoldable pub numerators_over : ℕ → List Rational → List ℤ
 numerators_over d qs = map (λ q. q.num *ℤ pos (d / q.den)) qs
 
 unfoldable pub cleared_of : RationalMatrix → Symmetric × ℤ
-cleared_of a = (record { size = a.size; lower = numerators_over (least_denominator a) a.lower }, pos (least_denominator a))
+cleared_of a =
+    (record { size = a.size; lower = numerators_over (least_denominator a) a.lower }, pos (least_denominator a))
 
 pub record IsLeastCommon (d : ℕ) (qs : List Rational) : Type 0 where
   pub positive : 0 < d

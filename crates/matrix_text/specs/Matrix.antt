@@ -58,7 +58,9 @@ abbrev pub row_of_words : ℕ → List (List ℕ) → Result (List Rational) Tex
 row_of_words n words = numbers_of entry_of_word ShortRow LongRow n words
 
 unfoldable pub size_of_word : List ℕ → Result ℕ TextKind
-size_of_word word = if is_whole word && nat_lt 0 (whole_value word) && nat_lt (whole_value word) 7 then Ok (whole_value word) else Err BadDimension
+size_of_word word =
+    if is_whole word && nat_lt 0 (whole_value word) && nat_lt (whole_value word) 7 then Ok (whole_value word) else Err
+    BadDimension
 
 unfoldable pub header_of : List (List ℕ) → Result ℕ TextKind
 header_of (name ∷ version ∷ size ∷ []) =

@@ -52,7 +52,11 @@ impl Place {
     fn next(self) -> Place
         requires row { self.row ≤ 100 }
         requires column { self.column ≤ self.row }
-        ensures { result ≡ (if self.column == self.row then record { row = self.row + 1; column = 1 } else record { row = self.row; column = self.column + 1 }) }
+        ensures { result
+            ≡ (if self.column == self.row then record {
+              row = self.row + 1;
+              column = 1;
+            } else record { row = self.row; column = self.column + 1 }) }
     {
         if self.column == self.row {
             Place {
@@ -80,7 +84,8 @@ fn part_of(number: i128, by: i128) -> i128
 /// The product at a place, or its refusal where it does not fit.
 fn multiply_at(place: Place, left: i128, right: i128) -> Result<i128, ClearFail>
     ensures ok { IfOk result (λ product. (is_owed (mul_op left right) ≡ false) × (product ≡ left *ℤ right)) }
-    ensures wide { IfErr result (λ fail. (is_owed (mul_op left right) ≡ true) × (fail ≡ Wide place.row place.column (mul_op left right))) }
+    ensures wide { IfErr result (λ fail. (is_owed (mul_op left right) ≡ true)
+        × (fail ≡ Wide place.row place.column (mul_op left right))) }
 {
     match int_mul(left, right) {
         Ok(product) => Ok(product),
@@ -96,8 +101,10 @@ fn multiply_at(place: Place, left: i128, right: i128) -> Result<i128, ClearFail>
 fn multiple_at(place: Place, number: i128, entry: Fraction) -> Result<i128, ClearFail>
     requires positive { pos 1 ≤ℤ number }
     requires fits { FitsInt number }
-    ensures ok { IfOk result (λ product. let factor = pos (entry.den / gcd_of (nat_abs number) entry.den) in (is_owed (mul_op number factor) ≡ false) × (product ≡ number *ℤ factor)) }
-    ensures wide { IfErr result (λ fail. let op = mul_op number (pos (entry.den / gcd_of (nat_abs number) entry.den)) in (is_owed op ≡ true) × (fail ≡ Wide place.row place.column op)) }
+    ensures ok { IfOk result (λ product. let factor = pos (entry.den / gcd_of (nat_abs number) entry.den) in
+        (is_owed (mul_op number factor) ≡ false) × (product ≡ number *ℤ factor)) }
+    ensures wide { IfErr result (λ fail. let op = mul_op number (pos (entry.den / gcd_of (nat_abs number) entry.den)) in
+        (is_owed op ≡ true) × (fail ≡ Wide place.row place.column op)) }
 {
     let factor = part_of(entry.den(), gcd(number, entry.den()));
     multiply_at(place, number, factor)
@@ -106,8 +113,10 @@ fn multiple_at(place: Place, number: i128, entry: Fraction) -> Result<i128, Clea
 /// The numerator over a common denominator of the entry at a place.
 fn numerator_at(place: Place, denominator: i128, entry: Fraction) -> Result<i128, ClearFail>
     requires { pos 1 ≤ℤ denominator }
-    ensures ok { IfOk result (λ product. let factor = pos (nat_abs denominator / entry.den) in (is_owed (mul_op entry.num factor) ≡ false) × (product ≡ entry.num *ℤ factor)) }
-    ensures wide { IfErr result (λ fail. let op = mul_op entry.num (pos (nat_abs denominator / entry.den)) in (is_owed op ≡ true) × (fail ≡ Wide place.row place.column op)) }
+    ensures ok { IfOk result (λ product. let factor = pos (nat_abs denominator / entry.den) in
+        (is_owed (mul_op entry.num factor) ≡ false) × (product ≡ entry.num *ℤ factor)) }
+    ensures wide { IfErr result (λ fail. let op = mul_op entry.num (pos (nat_abs denominator / entry.den)) in
+        (is_owed op ≡ true) × (fail ≡ Wide place.row place.column op)) }
 {
     let factor = part_of(denominator, entry.den());
     multiply_at(place, entry.num(), factor)
@@ -115,9 +124,13 @@ fn numerator_at(place: Place, denominator: i128, entry: Fraction) -> Result<i128
 
 /// The least common denominator of the entries.
 fn common_denominator(a: &RatMatrix) -> Result<i128, ClearFail>
-    ensures ok { IfOk result (λ d. answer is_placed_owed (denominator_ops 1 (placed_entries a.now)) (pos (least_denominator a.now)) ≡ Ok d) }
+    ensures ok { IfOk result
+        (λ d. answer is_placed_owed (denominator_ops 1 (placed_entries a.now)) (pos (least_denominator a.now))
+        ≡ Ok d) }
     ensures positive { IfOk result (λ d. pos 1 ≤ℤ d) }
-    ensures wide { IfErr result (λ fail. RefusedAs (answer is_placed_owed (denominator_ops 1 (placed_entries a.now)) (pos (least_denominator a.now))) fail) }
+    ensures wide { IfErr result
+        (λ fail. RefusedAs
+        (answer is_placed_owed (denominator_ops 1 (placed_entries a.now)) (pos (least_denominator a.now))) fail) }
 {
     let mut place = FIRST;
     let mut common: i128 = 1;
@@ -131,9 +144,15 @@ fn common_denominator(a: &RatMatrix) -> Result<i128, ClearFail>
 /// The numerators over a common denominator.
 fn numerators(alloc: Global, a: &RatMatrix, denominator: i128) -> Result<Vec<i128>, ClearFail>
     requires { pos 1 ≤ℤ denominator }
-    ensures ok { IfOk result (λ lower. answer is_placed_owed (numerator_ops (nat_abs denominator) (placed_entries a.now)) (numerators_over (nat_abs denominator) a.now.lower) ≡ Ok lower.items) }
-    ensures fits { IfOk result (λ lower. (k : ℕ) → k < length lower.items → FitsInt (slice_index_or lower.items k (pos 0))) }
-    ensures wide { IfErr result (λ fail. RefusedAs (answer is_placed_owed (numerator_ops (nat_abs denominator) (placed_entries a.now)) (numerators_over (nat_abs denominator) a.now.lower)) fail) }
+    ensures ok { IfOk result
+        (λ lower. answer is_placed_owed (numerator_ops (nat_abs denominator) (placed_entries a.now))
+        (numerators_over (nat_abs denominator) a.now.lower) ≡ Ok lower.items) }
+    ensures fits { IfOk result (λ lower. (k : ℕ) → k < length lower.items
+        → FitsInt (slice_index_or lower.items k (pos 0))) }
+    ensures wide { IfErr result
+        (λ fail. RefusedAs
+        (answer is_placed_owed (numerator_ops (nat_abs denominator) (placed_entries a.now))
+        (numerators_over (nat_abs denominator) a.now.lower)) fail) }
 {
     let mut place = FIRST;
     let mut lower = Vec::new(alloc);

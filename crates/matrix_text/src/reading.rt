@@ -27,8 +27,10 @@ fn line_at(table: &Table, row: usize) -> u32
 
 /// The matrix of a table, or the fault of its first row that is not as the column of its number.
 fn matrix_in(alloc: Global, table: &Table) -> Result<RatMatrix, TextFail>
-    ensures ok { IfOk result (λ a. mirrored (table_rows table.now) (first_unlike same_number none (table_entries table.now)) ≡ Ok a) }
-    ensures fault { (fault : TextFault) → result ≡ Err (Fault fault) → mirrored (table_rows table.now) (first_unlike same_number none (table_entries table.now)) ≡ Err fault }
+    ensures ok { IfOk result
+        (λ a. mirrored (table_rows table.now) (first_unlike same_number none (table_entries table.now)) ≡ Ok a) }
+    ensures fault { (fault : TextFault) → result ≡ Err (Fault fault)
+        → mirrored (table_rows table.now) (first_unlike same_number none (table_entries table.now)) ≡ Err fault }
 {
     if let Some(row) = first_unlike_row(table) {
         return Err(TextFail::Fault(fault(TextKind::NotSymmetric, line_at(table, row))));
@@ -46,7 +48,8 @@ pub fn read_matrix(alloc: Global, bytes: &[u8]) -> Result<RatMatrix, TextFail>
     requires { length bytes.now ≤ 1048576 }
     ensures ok { IfOk result (λ a. MatrixText bytes.now a) }
     ensures short { IfOk result (λ a. IsShortMatrix a) }
-    ensures fault { (kind : TextKind) → (line : ℕ) → result ≡ Err (Fault (record { kind = kind; line = line })) → MatrixFault bytes.now kind line }
+    ensures fault { (kind : TextKind) → (line : ℕ) → result ≡ Err (Fault (record { kind = kind; line = line }))
+        → MatrixFault bytes.now kind line }
 {
     match read_table(bytes) {
         Ok(table) => matrix_in(alloc, &table),

@@ -40,7 +40,8 @@ fn row_in(line: &[u8], size: usize) -> Result<[Fraction; MOST], TextKind>
 #[tactic(auto, unfolding(text_lines::specs::Readings::in_line))]
 fn row_at(line: TextLine, size: usize) -> Result<Row, TextFault>
     requires { size ≤ MOST }
-    ensures entries { Agrees (λ row. take size row.entries) result (read_line (row_of_words size) (line_of line.entry)) }
+    ensures entries { Agrees (λ row. take size row.entries) result
+        (read_line (row_of_words size) (line_of line.entry)) }
     ensures line { IfOk result (λ row. row.line ≡ line.entry.number) }
 {
     if !is_ascii_line(line.bytes) {
@@ -111,7 +112,8 @@ fn size_at(line: TextLine) -> Result<u8, TextFault>
 #[tactic(auto, unfolding(crate::specs::Matrix::table_of))]
 pub fn read_table(text: &[u8]) -> Result<Table, TextFault>
     requires { length text.now + 1 < 2 ^ 32 }
-    ensures { Agrees (λ table. table_rows table) result (table_of (record { lines = content_lines text.now; end = end_line text.now })) }
+    ensures { Agrees (λ table. table_rows table) result
+        (table_of (record { lines = content_lines text.now; end = end_line text.now })) }
 {
     let mut lines = ContentLines::of(text);
     let size = match lines.next() {

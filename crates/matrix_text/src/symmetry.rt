@@ -50,7 +50,8 @@ pub fn first_unlike_row(table: &Table) -> Option<usize>
 /// Appends the entries of a row, up to the diagonal.
 fn push_front(lower: &mut Vec<Fraction>, table: &Table, row: usize) -> Result<(), AllocError>
     requires { row < table.now.size }
-    ensures { OnOk result (lower.new.items ≡ lower.old.items ++ take (row + 1) (slice_index_or (table_entries table.now) row [])) }
+    ensures { OnOk result (lower.new.items ≡ lower.old.items
+        ++ take (row + 1) (slice_index_or (table_entries table.now) row [])) }
 {
     for column in 0..row + 1 {
         lower.push(entry(table, row, column))?;

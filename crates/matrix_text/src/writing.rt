@@ -26,7 +26,8 @@ fn push_column(into: &mut Vec<u8>, column: u8, fraction: Fraction) -> Result<(),
 /// Appends the line of a row, which counts from 0.
 fn push_row(into: &mut Vec<u8>, a: &RatMatrix, row: u8) -> Result<(), AllocError>
     requires { row < a.now.size }
-    ensures ok { OnOk result (into.new.items ≡ into.old.items ++ row_text (map (λ j. rational_entry a.now row j) (range_with_len 0 a.now.size))) }
+    ensures ok { OnOk result (into.new.items ≡ into.old.items
+        ++ row_text (map (λ j. rational_entry a.now row j) (range_with_len 0 a.now.size))) }
     ensures kept { Extends into.old.items into.new.items }
 {
     for column in 0..a.n() {

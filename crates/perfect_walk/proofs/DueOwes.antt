@@ -12,7 +12,8 @@ use Rattle.contiguous.specs.Tightenings.{last_tighten}
 use Rattle.perfect_walk.specs.declared.journal.Owed.{Owed}
 use Rattle.perfect_walk.specs.Operations.{first_owed_of, of_place}
 use Rattle.perfect_walk.specs.States.{Task, WalkState, program_at, inner_at, meeting_ops, leg_at, rayed_ops, search_ops, pairing_ops}
-use Rattle.perfect_walk.specs.Next.{Next, ByMatrix, Exchanged, Factored, ByRay, Tightened, Moved, Undecided, TooWide, BoundTooWide, ComesNext, IsPlacing, IsOutsideNow, IsAtRay, IsSearchAt}
+use Rattle.perfect_walk.specs.Next.{Next, ByMatrix, Exchanged, Factored, ByRay, Tightened, Moved, Undecided, TooWide, BoundTooWide, ComesNext, IsPlacing}
+use Rattle.perfect_walk.specs.Next.{IsOutsideNow, IsAtRay, IsSearchAt}
 use Rattle.perfect_walk.specs.Ends.{due_ops, Stage, Meeting, Placing, Raying, Pairing, Tightening, IsStage, stage_before, stage_own, searched_at, IsOwedAt}
 use Rattle.perfect_walk.specs.Theorems.{FirstDueIsOwed}
 use Rattle.perfect_walk.proofs.Owes.{nothing, owes_then, owes_first}

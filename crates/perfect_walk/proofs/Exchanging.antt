@@ -1,7 +1,9 @@
 -- The steps of the linear program as steps of the walk, and its answers as ends of the walk.
-use Rattle.std.specs.Prelude.{◌≡◌, ℕ, zero, suc, ◌+◌, ◌<◌, ◌≤◌, ℤ, pos, ◌≤ℤ◌, Bool, true, false, ◌⊎◌, List, [], ◌∷◌, ◌++◌, map, length, Option, Some, None, if◌then◌else◌, nat_eq, slice_index_or}
+use Rattle.std.specs.Prelude.{◌≡◌, ℕ, zero, suc, ◌+◌, ◌<◌, ◌≤◌, ℤ, pos, ◌≤ℤ◌, Bool, true, false, ◌⊎◌, List, [], ◌∷◌, ◌++◌, map, length, Option, Some, None}
+use Rattle.std.specs.Prelude.{if◌then◌else◌, nat_eq, slice_index_or}
 use Rattle.std.proofs.Common.{arith, sym, ◌∙◌, ap, refl, subst, inl, inr}
 use Rattle.std.proofs.lemmas.List.{map-append}
+use Rattle.commutative_ring.proofs.SmallCases.{same_or_below}
 use Rattle.exact_forms.specs.Copositive.{IsPerfect}
 use Rattle.symmetric_matrix.specs.Owed.{first_owed}
 use Rattle.symmetric_matrix.specs.Symmetric.{Symmetric}
@@ -11,7 +13,8 @@ use Rattle.exact_lp.specs.declared.placed.Placed.{Placed}
 use Rattle.exact_lp.specs.declared.placed.Placed.TheVariants as placed
 use Rattle.exact_lp.specs.Rule.{entering}
 use Rattle.exact_linear.specs.Tables.{or_zero}
-use Rattle.exact_lp.specs.Placement.{Problem, place_is_owed, first_owed_in, firsts, table_after, exchange_of, steps_of, IsStepDue, opening_ops, closing_ops, leg_ops, legs, IsRun as IsPlaceRun, IsPlaceAnswer, IsRefusedAfter, problem_of}
+use Rattle.exact_lp.specs.Placement.{Problem, place_is_owed, first_owed_in, firsts, table_after, exchange_of, steps_of, IsStepDue, opening_ops, closing_ops}
+use Rattle.exact_lp.specs.Placement.{leg_ops, legs, IsRun as IsPlaceRun, IsPlaceAnswer, IsRefusedAfter, problem_of}
 use Rattle.exact_lp.specs.Simplex.{IsSimplexOf}
 use Rattle.exact_lp.specs.Ruled.{IsRuled}
 use Rattle.exact_lp.proofs.Ruled.{simplex_steps}
@@ -131,7 +134,8 @@ module _ (T : Task) (v : Visit) (searched : Option Symmetric) where
           (step.Exchange e ∷ []) before one))
 
       -- the steps that `place` gives
-      pub placed_run : (budget : ℕ) (es : List Exchange) → IsPlaceRun p budget es → IsWalkRun T (with_exchanges []) [] (map step.Exchange es) (with_exchanges es)
+      pub placed_run : (budget : ℕ) (es : List Exchange) → IsPlaceRun p budget es
+          → IsWalkRun T (with_exchanges []) [] (map step.Exchange es) (with_exchanges es)
       placed_run budget es R =
           subst (λ (es : List Exchange). IsWalkRun T (with_exchanges []) [] (map step.Exchange es) (with_exchanges es)) (sym R.are)
           (exchanges_run (length es) R.due R.owes)
@@ -142,11 +146,8 @@ module _ (T : Task) (v : Visit) (searched : Option Symmetric) where
       placed_next budget es R h =
           subst (λ (xs : List Exchange). IsStepNext T (with_exchanges xs)
           (exchange_of (table_after p (length es)) p.vectors (firsts p) (or_zero (entering (table_after p (length es)) p.vectors)))) (sym R.are)
-          (step_next (length es) (λ j l. by j (or_less j (length es) l)))
+          (step_next (length es) (λ j l. by j (same_or_below j (length es) l)))
         where
-          or_less : (j k : ℕ) → j ≤ k → (j ≡ k) ⊎ (j < k)
-          or_less j k l = grind arith
-
           by : (j : ℕ) → ((j ≡ length es) ⊎ (j < length es)) → IsStepDue p j
           by j (inl e) = subst (λ (i : ℕ). IsStepDue p i) (sym e) h
           by j (inr l) = R.due j l

@@ -47,5 +47,6 @@ is_after vectors found k now x increasing l vector is =
     (All-filter has_weight (λ t. ComesBefore t.vector x) (map (term_at vectors found) (range_with_len 0 k)) before) in
     record {
       greater = λ i last. subst (λ (y : List ℕ). ComesBefore y x)
-          (sym (get_or-map (λ (t : WeightedVector). t.vector) now i (term_at vectors found 0) [] (omega arith))) (kept i (term_at vectors found 0) (omega arith));
+          (sym (get_or-map (λ (t : WeightedVector). t.vector) now i (term_at vectors found 0) [] (omega arith)))
+          (kept i (term_at vectors found 0) (omega arith));
     }

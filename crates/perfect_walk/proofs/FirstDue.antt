@@ -1,25 +1,69 @@
 -- An operation that is owed is the first one that is, of all that are due, whatever comes next.
-use Rattle.std.specs.Prelude.{◌≡◌, ◌⊎◌, ℕ, ℤ, pos, ◌<ℤ◌, Bool, true, false, List, [], ◌∷◌, ◌++◌, Option, Some, None, nat_eq}
-use Rattle.std.proofs.Common.{sym, ◌∙◌, ap, refl, subst, inl, inr}
+use Rattle.std.specs.Prelude.{◌≡◌, ◌⊎◌, ℕ, ℤ, pos, ◌<ℤ◌, Bool, true, false, List, [], Option, Some, None, nat_eq}
+use Rattle.std.proofs.Common.{sym, ◌∙◌, ap, refl, subst, inl, inr, arith}
 use Rattle.exact_forms.specs.Rational.{Rational}
-use Rattle.symmetric_matrix.specs.Symmetric.{Symmetric}
 use Rattle.unimodular_cone.specs.Paths.{Path}
 use Rattle.unimodular_cone.specs.declared.WideAt.{WideAt}
 use Rattle.unimodular_cone.specs.Answer.{SearchAnswer, BoundWide, Wide, Low, Depth, Copositive, Found}
 use Rattle.exact_lp.specs.declared.placed.Exchange.{Exchange}
 use Rattle.contiguous.specs.declared.neighbour.Tighten.{Tighten}
-use Rattle.contiguous.specs.Tightenings.{tighten_of, first_vector, CallsFor}
+use Rattle.contiguous.specs.Tightenings.{tighten_of, first_vector, CallsFor, Line, last_tighten}
 use Rattle.perfect_walk.specs.declared.journal.Owed.{Owed}
 use Rattle.perfect_walk.specs.declared.journal.Visit.{Visit}
 use Rattle.perfect_walk.specs.Operations.{first_owed_of}
-use Rattle.perfect_walk.specs.States.{Task, WalkState, ray_at, line_at, search_target_at, level_at, product_at, inner_at, meeting_ops, search_ops, tightening_ops}
-use Rattle.perfect_walk.specs.Next.{Next, ByMatrix, Exchanged, Factored, ByRay, Tightened, Moved, Undecided, TooWide, BoundTooWide, IsFresh, IsPlacing, IsStepNext, IsInsideNow, IsSearchAt}
-use Rattle.perfect_walk.specs.Ends.{due_ops, Stage, Meeting, Placing, Raying, Pairing, Tightening, IsOwedAt, stage_own}
+use Rattle.perfect_walk.specs.States.{Task, WalkState, ray_at, line_at, search_target_at, level_at, product_at, inner_at, meeting_ops, search_ops}
+use Rattle.perfect_walk.specs.States.{tightening_ops, leg_at, rayed_ops}
+use Rattle.perfect_walk.specs.Next.{Next, ByMatrix, Exchanged, Factored, ByRay, Tightened, Moved, Undecided, TooWide, BoundTooWide, IsFresh, IsPlacing}
+use Rattle.perfect_walk.specs.Next.{IsStepNext, IsInsideNow, IsSearchAt}
+use Rattle.perfect_walk.specs.Ends.{due_ops, Stage, Meeting, Placing, Raying, Pairing, Tightening, stage_own, IsStage, stage_before}
 use Rattle.perfect_walk.specs.Theorems.{OwedIsFirstDue}
 use Rattle.perfect_walk.proofs.Owes.{owes_then, owes_first}
-use Rattle.perfect_walk.proofs.Placings.{in_opening}
+use Rattle.perfect_walk.proofs.Placings.{in_opening, in_leg}
 use Rattle.perfect_walk.proofs.OneNext.{BySearch, View, view, one_answer, at_ray, not_met, step_not_outside, inside_not_outside}
-use Rattle.perfect_walk.proofs.OneEnd.{vector_of, met_leg, placed_leg, leg_rayed, ray_rayed, by_called, IsOwing}
+use Rattle.std.proofs.lemmas.Int.{ints}
+use Rattle.perfect_walk.proofs.Tightening.{last_none}
+
+pub clash : (ops : List Owed) (o : Owed) → first_owed_of ops ≡ None → first_owed_of ops ≡ Some o → ⊥
+clash ops o h k = let e : None ≡ Some o = sym h ∙ k in cc
+
+pub vector_of : (l : Line) (w : List ℕ) → (tighten_of l w).vector ≡ w
+unfolding tighten_of
+vector_of l w = refl
+
+module _ (T : Task) (σ : WalkState) where
+  -- the ray's operations come before its search
+  rayed : σ.tightens ≡ [] → search_ops T σ ≡ rayed_ops T σ
+  rayed e = ap (λ (o : Option Tighten). elim o as (λ _. List Owed) [ None ↦ rayed_ops T σ | Some t ↦ [] ]) (ap last_tighten e ∙ last_none)
+
+  -- ---- a call that owes, against a later list
+  pub met_leg : (o : Owed) → first_owed_of (meeting_ops T σ) ≡ Some o → first_owed_of (leg_at T σ) ≡ Some o
+  met_leg o h = owes_first (meeting_ops T σ) _ o h
+
+  pub placed_leg : (b : Bool) (o : Owed) → first_owed_of (meeting_ops T σ) ≡ None → first_owed_of (stage_own T σ b Placing) ≡ Some o
+      → first_owed_of (leg_at T σ) ≡ Some o
+  placed_leg b o n h = owes_then (meeting_ops T σ) _ (Some o) n (in_leg T σ b o h)
+
+  pub leg_rayed : (o : Owed) → first_owed_of (leg_at T σ) ≡ Some o → σ.tightens ≡ [] → first_owed_of (search_ops T σ) ≡ Some o
+  leg_rayed o h e = ap (λ (ops : List Owed). first_owed_of ops) (rayed e) ∙ owes_first (leg_at T σ) _ o h
+
+  pub ray_rayed : (b : Bool) (o : Owed) → first_owed_of (stage_before T σ Raying) ≡ None → first_owed_of (stage_own T σ b Raying) ≡ Some o → σ.tightens ≡ []
+      → first_owed_of (search_ops T σ) ≡ Some o
+  ray_rayed b o n h e = ap (λ (ops : List Owed). first_owed_of ops) (rayed e) ∙ owes_then (leg_at T σ) _ (Some o) n h
+
+  -- the Tighten that a search calls for
+  pub by_called : (a : SearchAnswer) (w : List ℕ) (next : Next) → CallsFor (level_at T σ) w a → BySearch T σ a next
+      → ((next ≡ Tightened (tighten_of (line_at T σ) w)) ⊎ ⊥)
+  by_called Copositive w next c e = absurd c
+  by_called (Low x z path) w next c e = inl (e ∙ ap (λ (w : List ℕ). Tightened (tighten_of (line_at T σ) w)) (sym c))
+  by_called (Found b vectors) w next c (inl e) = inl (e.1 ∙ ap (λ (w : List ℕ). Tightened (tighten_of (line_at T σ) w)) (sym c.1))
+  by_called (Found b vectors) w next c (inr e) = absurd (let l = c.0 in let k = e.0 in grind (arith, ints))
+  by_called (Depth path) w next c e = absurd c
+  by_called (Wide path g) w next c e = absurd c
+  by_called (BoundWide z) w next c e = absurd c
+
+  -- a call that owes
+  abbrev pub IsOwing : Bool → Stage → Owed → Type 0
+  IsOwing b stage o = (IsStage T σ b stage) × (first_owed_of (stage_before T σ stage) ≡ None) × (first_owed_of (stage_own T σ b stage) ≡ Some o)
 
 module _ (T : Task) (σ : WalkState) where
   as_next : (b : Bool) (n m : Next) (o : Owed) → n ≡ m → first_owed_of (due_ops T σ b m) ≡ Some o → first_owed_of (due_ops T σ b n) ≡ Some o
@@ -117,7 +161,7 @@ module _ (T : Task) (σ : WalkState) where
       by (inl is) = as_next b next (Tightened (tighten_of (line_at T σ) w)) o is (tightened b o w h.1 h.2 h.0.1)
       by (inr none) = absurd none
 
-  first_due : (b : Bool) (stage : Stage) (o : Owed) (next : Next) → IsOwing T σ b stage o → View T σ next → first_owed_of (due_ops T σ b next) ≡ Some o
+  pub first_due : (b : Bool) (stage : Stage) (o : Owed) (next : Next) → IsOwing T σ b stage o → View T σ next → first_owed_of (due_ops T σ b next) ≡ Some o
   first_due b stage o next h (inl v) = as_next b next ByMatrix o v.0 (by_matrix b stage o h v.1 v.2)
   first_due b stage o next h (inr (inl (e, is, p, s))) = as_next b next (Exchanged e) o is (by_step b stage o e h p s)
   first_due b stage o next h (inr (inr (inl (f, is, p, i)))) = as_next b next (Factored f) o is (by_inside b stage o f h p i)

@@ -13,7 +13,8 @@ use Rattle.contiguous.specs.Tightenings.{tighten_of, first_vector, CallsFor, las
 use Rattle.perfect_walk.specs.declared.journal.Visit.{Visit}
 use Rattle.perfect_walk.specs.declared.journal.Step.{Step}
 use Rattle.perfect_walk.specs.States.{Task, WalkState, line_at, search_target_at, level_at, mode_at, product_at}
-use Rattle.perfect_walk.specs.Next.{Next, ByMatrix, Exchanged, Factored, ByRay, Tightened, Moved, Undecided, TooWide, BoundTooWide, ComesNext, IsFresh, IsPlacing, IsStepNext, IsInsideNow, IsOutsideNow, IsAtRay, IsSearchAt, IsCalledFor}
+use Rattle.perfect_walk.specs.Next.{Next, ByMatrix, Exchanged, Factored, ByRay, Tightened, Moved, Undecided, TooWide, BoundTooWide, ComesNext, IsFresh}
+use Rattle.perfect_walk.specs.Next.{IsPlacing, IsStepNext, IsInsideNow, IsOutsideNow, IsAtRay, IsSearchAt, IsCalledFor}
 use Rattle.perfect_walk.specs.Chains.{IsWalkStep, step_of, after, entered}
 use Rattle.perfect_walk.proofs.Tightening.{last_none}
 

@@ -23,11 +23,14 @@ pub record IsSame (vs ws : List Visit) (xs ys : List Step) (x y : Option Symmetr
 abbrev IsOne : List Visit → List Visit → List Step → List Step → Option Symmetric → Option Symmetric → End → End → Type 0
 IsOne vs ws xs ys x y d e = IsSame vs ws xs ys x y d e ⊎ ((d ≡ end.OutOfMemory) ⊎ (e ≡ end.OutOfMemory))
 
-one_run : (T : Task) (limit : ℕ) (xs ys : List Step) (σ τ π : WalkState) (vs ws : List Visit) (m : ℕ) (x y : Option Symmetric) (d e : End) → IsWalkRun T σ vs xs τ
+one_run : (T : Task) (limit : ℕ) (xs ys : List Step) (σ τ π : WalkState) (vs ws : List Visit) (m : ℕ) (x y : Option Symmetric) (d e : End)
+    → IsWalkRun T σ vs xs τ
     → IsWalkRun T σ ws ys π
-    → IsWalkEnd T limit τ (m + length xs) x d → IsWalkEnd T limit π (m + length ys) y e → m + length xs ≤ limit → m + length ys ≤ limit → IsOne vs ws xs ys x y d e
+    → IsWalkEnd T limit τ (m + length xs) x d → IsWalkEnd T limit π (m + length ys) y e → m + length xs ≤ limit → m + length ys ≤ limit
+    → IsOne vs ws xs ys x y d e
 one_run T limit [] [] σ τ π vs ws m x y d e h k a b l n = by
-    (one_end T σ limit (m + 0) x y d e (subst (λ (ρ : WalkState). IsWalkEnd T limit ρ (m + 0) x d) h.1 a) (subst (λ (ρ : WalkState). IsWalkEnd T limit ρ (m + 0) y e) k.1 b))
+    (one_end T σ limit (m + 0) x y d e (subst (λ (ρ : WalkState). IsWalkEnd T limit ρ (m + 0) x d) h.1 a)
+    (subst (λ (ρ : WalkState). IsWalkEnd T limit ρ (m + 0) y e) k.1 b))
   where
     by : (((x ≡ y) × (d ≡ e)) ⊎ ((d ≡ end.OutOfMemory) ⊎ (e ≡ end.OutOfMemory))) → IsOne vs ws [] [] x y d e
     by (inl s) = inl record { visits = h.0 ∙ sym k.0; steps = refl; searched = s.0; ends = s.1 }

@@ -56,7 +56,8 @@ module _ (T : Task) (limits : Limits) (σ : WalkState) (s : Symmetric) (v : Visi
   same_ops R O = ap₂ (λ (zs : List ℕ) (l : ℕ). ray_ops v.vectors zs l) O.zeros_are O.leaving_is
       ∙ ap (λ (w : Visit). ray_ops w.vectors (zeros_at T σ) (leaving_at T σ)) (sym R.visit)
 
-  pub ray_on : IsHeld s.size v → IsSeparating s.size v.vectors s zeros leaving → IsReadyAlong T limits s σ v old → IsOutsideWith T σ zeros leaving → (r : Symmetric)
+  pub ray_on : IsHeld s.size v → IsSeparating s.size v.vectors s zeros leaving → IsReadyAlong T limits s σ v old → IsOutsideWith T σ zeros leaving
+      → (r : Symmetric)
       → r ≡ ray v.vectors zeros leaving
       → first_owed ray_is_owed (ray_ops v.vectors zeros leaving) ≡ None
       → IsPrimitiveRay (vector_size v.vectors leaving) (named v.vectors zeros) (vector_at v.vectors leaving) r → IsOnRay T σ r

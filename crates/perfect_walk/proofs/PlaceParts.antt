@@ -1,5 +1,6 @@
 -- What the linear program makes of the walk.
-use Rattle.std.specs.Prelude.{◌≡◌, ◌⊎◌, ℕ, ◌+◌, ◌≤◌, ◌<◌, ℤ, pos, ◌≤ℤ◌, Bool, true, false, List, [], ◌∷◌, ◌++◌, map, length, Option, Some, None, nat_eq, slice_index_or}
+use Rattle.std.specs.Prelude.{◌≡◌, ◌⊎◌, ℕ, ◌+◌, ◌≤◌, ◌<◌, ℤ, pos, ◌≤ℤ◌, Bool, true, false, List, [], ◌∷◌, ◌++◌, map, length, Option, Some, None, nat_eq}
+use Rattle.std.specs.Prelude.{slice_index_or}
 use Rattle.std.proofs.Common.{arith, sym, ◌∙◌, ap, ap₂, refl, subst, inl, inr, append_assoc, length-append, eq-eqb}
 use Rattle.std.proofs.lemmas.List.{length-map}
 use Rattle.exact_forms.specs.Rational.{Rational}
@@ -11,7 +12,8 @@ use Rattle.exact_lp.specs.declared.placed.Placed.{Placed}
 use Rattle.exact_lp.specs.declared.placed.Placed.TheVariants as placed
 use Rattle.exact_lp.specs.Rule.{entering}
 use Rattle.exact_linear.specs.Tables.{or_zero}
-use Rattle.exact_lp.specs.Placement.{Problem, firsts, table_after, exchange_of, IsStepDue, leg_ops, ops_within, first_owed_in, IsRun as IsPlaceRun, IsPlaceAnswer, problem_of}
+use Rattle.exact_lp.specs.Placement.{Problem, firsts, table_after, exchange_of, IsStepDue, leg_ops, ops_within, first_owed_in, IsRun as IsPlaceRun}
+use Rattle.exact_lp.specs.Placement.{IsPlaceAnswer, problem_of}
 use Rattle.exact_lp.specs.Ruled.{IsRuled}
 use Rattle.exact_lp.specs.Weights.{IsSound}
 use Rattle.perfect_walk.specs.declared.journal.Limits.{Limits}
@@ -26,20 +28,27 @@ use Rattle.perfect_walk.specs.declared.walking.Turned.{Turned}
 use Rattle.perfect_walk.specs.declared.walking.Turned.TheVariants as turned
 use Rattle.perfect_walk.specs.Operations.{first_owed_of, of_place}
 use Rattle.perfect_walk.specs.States.{Task, WalkState, program_at, product_at, meeting_ops, leg_at, opening_at, inner_at, zeros_at, leaving_at}
-use Rattle.perfect_walk.specs.Next.{Next, Exchanged, Factored}
+use Rattle.perfect_walk.specs.Next.{Exchanged, Factored}
 use Rattle.perfect_walk.specs.Chains.{IsWalkRun}
 use Rattle.perfect_walk.specs.Ends.{due_ops, IsWalkEnd, Placing, placing_ops}
 use Rattle.perfect_walk.specs.Parts.{IsPart, IsTurned, IsEndedAfter, IsFactoredBy, IsOutsideWith}
 use Rattle.perfect_walk.proofs.Runs.{run_append}
 use Rattle.perfect_walk.proofs.Owes.{owes_then, place_some}
 use Rattle.perfect_walk.proofs.OneEnd.{is_equal}
+use Rattle.perfect_walk.proofs.RayParts.{due_none}
 use Rattle.perfect_walk.proofs.TightenEnds.{part_memory}
 use Rattle.perfect_walk.proofs.Exchanging.{with_exchanges, meeting_none, is_placing, leg_at_none, opening_at_none, placed_run, placed_next}
 
-module _ (T : Task) (v : Visit) (limit budget : ℕ) (old : Trail) (met : pos 0 ≤ℤ product_at T (with_exchanges T v old.searched []))
-    (owes : first_owed_of (inner_at v.matrix T.s) ≡ None)
-    (some : 1 ≤ T.s.size) (sizes : (k : ℕ) → k < length v.vectors → length (slice_index_or v.vectors k []) ≡ T.s.size) (perfect : IsPerfect T.s.size v.vectors)
-    (within : length old.steps + budget ≡ limit) where
+-- where the linear program begins
+pub record IsPlaceStart (T : Task) (v : Visit) (limit budget : ℕ) (old : Trail) : Type 0 where
+  pub met : pos 0 ≤ℤ product_at T (with_exchanges T v old.searched [])
+  pub owes : first_owed_of (inner_at v.matrix T.s) ≡ None
+  pub some : 1 ≤ T.s.size
+  pub sizes : (k : ℕ) → k < length v.vectors → length (slice_index_or v.vectors k []) ≡ T.s.size
+  pub perfect : IsPerfect T.s.size v.vectors
+  pub within : length old.steps + budget ≡ limit
+
+module _ (T : Task) (v : Visit) (limit budget : ℕ) (old : Trail) (S : IsPlaceStart T v limit budget old) where
   abbrev p : Problem
   p = problem_of v.vectors T.s T.d
 
@@ -49,11 +58,6 @@ module _ (T : Task) (v : Visit) (limit budget : ℕ) (old : Trail) (met : pos 0 
   count : (new : Trail) (es : List Exchange) → new.steps ≡ old.steps ++ map step.Exchange es → length new.steps ≡ length old.steps + length es
   count new es e = ap (λ (xs : List Step). length xs) e ∙ length-append old.steps (map step.Exchange es)
       ∙ ap (λ (n : ℕ). length old.steps + n) (length-map es step.Exchange)
-
-  due_none : (σ : WalkState) (next : Next) (b : Bool) → first_owed_of (due_ops T σ true next) ≡ None → first_owed_of (due_ops T σ false next) ≡ None
-      → first_owed_of (due_ops T σ b next) ≡ None
-  due_none σ next true h k = h
-  due_none σ next false h k = k
 
   -- the two tests of whether a step is left are one
   same_test : (a k b m n : ℕ) → m ≡ a + k → n ≡ a + b → nat_eq k b ≡ nat_eq m n
@@ -74,11 +78,11 @@ module _ (T : Task) (v : Visit) (limit budget : ℕ) (old : Trail) (met : pos 0 
   -- nothing was done
   pub memory_here : (new : Trail) (left : Turned) → new.steps ≡ old.steps → new.searched ≡ old.searched → left ≡ turned.Ended end.OutOfMemory
       → IsPart T limit (at []) old new left
-  memory_here new left steps searched is = part_memory T limit (at []) old new left (omega arith) refl steps searched is
+  memory_here new left steps searched is = part_memory T limit (at []) old new left (let w = S.within in omega arith) refl steps searched is
 
   module _ (new : Trail) (es : List Exchange) (R : IsPlaceRun p budget es) where
     run : IsWalkRun T (at []) [] (map step.Exchange es) (at es)
-    run = placed_run T v old.searched met owes some sizes perfect budget es R
+    run = placed_run T v old.searched S.met S.owes S.some S.sizes S.perfect budget es R
 
     -- an end of the walk after the steps
     ended_part : (e : End) (left : Turned) → IsEndedAfter old new (map step.Exchange es) old.searched e left
@@ -90,7 +94,7 @@ module _ (T : Task) (v : Visit) (limit budget : ℕ) (old : Trail) (met : pos 0 
       state = at es;
       steps = h.0;
       run = run;
-      within = let c = count new es h.0 in let w = R.within in omega arith;
+      within = let c = count new es h.0 in let w = R.within in let b = S.within in omega arith;
       ends = subst (λ (left : Turned). IsTurned T limit (at es) new left) (sym h.2) (ends h.0 h.1);
     }
 
@@ -98,17 +102,20 @@ module _ (T : Task) (v : Visit) (limit budget : ℕ) (old : Trail) (met : pos 0 
     pub inside_part : (found : List Rational) (e : End) (left : Turned) → IsPlaceAnswer p budget (placed.Inside found es)
         → IsRuled v.vectors T.s T.d (placed.Inside found es) → IsSound T.s.size v.vectors T.s T.d (placed.Inside found es)
         → IsFactoredBy v.vectors found e → IsEndedAfter old new (map step.Exchange es) old.searched e left → IsPart T limit (at []) old new left
-    inside_part found e left A L S F E = ended_part e left E (λ steps searched. by steps searched F)
+    inside_part found e left A L V F E = ended_part e left E (λ steps searched. by steps searched F)
       where
         by : new.steps ≡ old.steps ++ map step.Exchange es → new.searched ≡ old.searched → IsFactoredBy v.vectors found e
             → IsWalkEnd T limit (at es) (length new.steps) new.searched e
         by steps searched (inr is) = inr (inr record { memory = is; searched_is = inl searched })
         by steps searched (inl is) =
-            let none = leg_at_none T v old.searched met owes es A.1.owes in
+            let none = leg_at_none T v old.searched S.met S.owes es A.1.owes in
             inl record {
               next = Factored found;
-              is_next = (is_placing T v old.searched met owes es, record { last = A.1.last; weights_are = A.1.found_are; rule = L; number = S.0; sum = S.1 });
-              owes = due_none (at es) (Factored found) (nat_eq (length new.steps) limit) none none;
+              is_next = (
+                is_placing T v old.searched S.met S.owes es,
+                record { last = A.1.last; weights_are = A.1.found_are; rule = L; number = V.0; sum = V.1 },
+              );
+              owes = due_none T (at es) (Factored found) (nat_eq (length new.steps) limit) none none;
               used = inl refl;
               searched_is = searched;
               end_is = is;
@@ -118,15 +125,15 @@ module _ (T : Task) (v : Visit) (limit budget : ℕ) (old : Trail) (met : pos 0 
     pub pivots_part : (left : Turned) → IsPlaceAnswer p budget (placed.Pivots es) → IsEndedAfter old new (map step.Exchange es) old.searched end.Pivots left
         → IsPart T limit (at []) old new left
     pivots_part left A E = ended_part end.Pivots left E (λ steps searched.
-        let used : length new.steps ≡ limit = let c = count new es steps in let k = A.1.used in omega arith in
+        let used : length new.steps ≡ limit = let c = count new es steps in let k = A.1.used in let w = S.within in omega arith in
         inl record {
           next = Exchanged (exchange_of (table_after p (length es)) p.vectors (firsts p) (or_zero (entering (table_after p (length es)) p.vectors)));
-          is_next = (is_placing T v old.searched met owes es, placed_next T v old.searched met owes some sizes perfect budget es R A.1.due);
+          is_next = (is_placing T v old.searched S.met S.owes es, placed_next T v old.searched S.met S.owes S.some S.sizes S.perfect budget es R A.1.due);
           owes = ap (λ (b : Bool). first_owed_of
               (due_ops T (at es) b (Exchanged
               (exchange_of (table_after p (length es)) p.vectors (firsts p) (or_zero (entering (table_after p (length es)) p.vectors))))))
               (eq-eqb (length new.steps) limit used)
-              ∙ opening_at_none T v old.searched met owes es A.1.owes;
+              ∙ opening_at_none T v old.searched S.met S.owes es A.1.owes;
           used = inr used;
           searched_is = searched;
           end_is = refl;
@@ -140,11 +147,11 @@ module _ (T : Task) (v : Visit) (limit budget : ℕ) (old : Trail) (met : pos 0 
           of_place o,
           record {
             stage = Placing;
-            is_stage = is_placing T v old.searched met owes es;
-            owes = meeting_none T v old.searched met owes es;
+            is_stage = is_placing T v old.searched S.met S.owes es;
+            owes = meeting_none T v old.searched S.met S.owes es;
             first = place_some _ o
                 (within_is (at es) budget (nat_eq (length new.steps) limit) o
-                (same_test (length old.steps) (length es) budget (length new.steps) limit (count new es steps) (sym within)) A.1);
+                (same_test (length old.steps) (length es) budget (length new.steps) limit (count new es steps) (sym S.within)) A.1);
             searched_is = searched;
           },
           refl,
@@ -154,7 +161,7 @@ module _ (T : Task) (v : Visit) (limit budget : ℕ) (old : Trail) (met : pos 0 
     pub outside_with : (zeros : List ℕ) (leaving : ℕ) → IsPlaceAnswer p budget (placed.Outside zeros leaving es)
         → IsRuled v.vectors T.s T.d (placed.Outside zeros leaving es) → IsOutsideWith T (at es) zeros leaving
     outside_with zeros leaving A L = record {
-      placing = is_placing T v old.searched met owes es;
+      placing = is_placing T v old.searched S.met S.owes es;
       outside = record {
         not_last = A.1.not_last;
         none = A.1.none;
@@ -163,7 +170,7 @@ module _ (T : Task) (v : Visit) (limit budget : ℕ) (old : Trail) (met : pos 0 
       };
       zeros_are = A.1.zeros_are;
       leaving_is = A.1.vector_is;
-      owes = leg_at_none T v old.searched met owes es A.1.owes;
+      owes = leg_at_none T v old.searched S.met S.owes es A.1.owes;
     }
 
     -- the part from there on

@@ -1,28 +1,17 @@
 -- The operations of `place` after its last step, up to the refusal of the next one, are a front of those up to the next one.
-use Rattle.std.specs.Prelude.{◌≡◌, ℕ, Bool, true, false, not, ◌&&◌, List, ◌++◌, map, length, Option, Some, if◌then◌else◌}
+use Rattle.std.specs.Prelude.{◌≡◌, ℕ, Bool, true, false, ◌&&◌, List, ◌++◌, map, length, Option, Some, if◌then◌else◌}
 use Rattle.std.proofs.Common.{sym, ◌∙◌, ap, refl, subst}
 use Rattle.std.proofs.lemmas.List.{map-append}
-use Rattle.exact_linear.specs.Tables.{is_there}
 use Rattle.exact_lp.specs.declared.placed.PlaceOp.{PlaceOp}
-use Rattle.exact_lp.specs.Rule.{entering}
-use Rattle.exact_lp.specs.Placement.{Problem, table_after, is_last, IsStepDue, is_step_due, opening_ops, closing_ops, leg_ops}
+use Rattle.exact_lp.specs.Placement.{Problem, IsStepDue, is_step_due, opening_ops, closing_ops, leg_ops}
+use Rattle.exact_lp.proofs.Budgets.{due_fact, due_test}
 use Rattle.perfect_walk.specs.declared.journal.Owed.{Owed}
 use Rattle.perfect_walk.specs.Operations.{first_owed_of, of_place}
 use Rattle.perfect_walk.specs.States.{Task, WalkState, program_at}
 use Rattle.perfect_walk.specs.Ends.{placing_ops}
 use Rattle.perfect_walk.proofs.Owes.{owes_first}
 
--- ---- the test of a step that is due
-both : (a b : Bool) → (not a && b) ≡ true → (a ≡ false) × (b ≡ true)
-both true b h = absurd cc
-both false b h = (refl, h)
-
-due_of : (p : Problem) (k : ℕ) → is_step_due p k ≡ true → IsStepDue p k
-due_of p k h = let parts = both (is_last p k) (is_there (entering (table_after p k) p.vectors)) h in record { not_last = parts.0; vector = parts.1 }
-
-is_due : (p : Problem) (k : ℕ) → IsStepDue p k → is_step_due p k ≡ true
-is_due p k h = ap (λ (b : Bool). not b && is_there (entering (table_after p k) p.vectors)) h.not_last ∙ h.vector
-
+-- ---- the front of a list of operations
 abbrev IsFirst : List PlaceOp → Owed → Type 0
 IsFirst ops o = first_owed_of (map of_place ops) ≡ Some o
 
@@ -45,14 +34,14 @@ module _ (T : Task) (σ : WalkState) where
       by false h = h
 
   pub in_opening : (o : Owed) → IsStepDue p k → IsFirst (placing_ops T σ true) o → IsFirst (opening_ops p k) o
-  in_opening o due h = subst (λ (c : Bool). IsFirst (if c then opening_ops p k else leg_ops p k) o) (is_due p k due) h
+  in_opening o due h = subst (λ (c : Bool). IsFirst (if c then opening_ops p k else leg_ops p k) o) (due_test p k due) h
 
   pub in_own : (b : Bool) (o : Owed) → (b ≡ true → IsStepDue p k → IsFirst (opening_ops p k) o) → IsFirst (leg_ops p k) o → IsFirst (placing_ops T σ b) o
   in_own false o r h = h
   in_own true o r h = by (is_step_due p k) refl
     where
       by : (c : Bool) → is_step_due p k ≡ c → IsFirst (if c then opening_ops p k else leg_ops p k) o
-      by true e = r refl (due_of p k e)
+      by true e = r refl (due_fact p k e)
       by false e = h
 
   pub in_refused : (o : Owed) → IsStepDue p k → IsFirst (opening_ops p k) o → IsFirst (placing_ops T σ true) o

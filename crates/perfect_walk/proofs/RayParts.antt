@@ -41,7 +41,8 @@ part_end T limit σ old new e left within steps ends is = record {
   ends = subst (λ (left : Turned). IsTurned T limit σ new left) (sym is) ends;
 }
 
-due_none : (T : Task) (σ : WalkState) (next : Next) (b : Bool) → first_owed_of (due_ops T σ true next) ≡ None → first_owed_of (due_ops T σ false next) ≡ None
+pub due_none : (T : Task) (σ : WalkState) (next : Next) (b : Bool) → first_owed_of (due_ops T σ true next) ≡ None
+    → first_owed_of (due_ops T σ false next) ≡ None
     → first_owed_of (due_ops T σ b next) ≡ None
 due_none T σ next true h k = h
 due_none T σ next false h k = k

@@ -1,5 +1,6 @@
 -- The loop of the visits.
-use Rattle.std.specs.Prelude.{Bool, true, false, Result, Ok, Err, OnOk, OnErr, ◌≡◌, ◌⊎◌, ℕ, zero, suc, ◌+◌, ◌-◌, ◌<◌, ◌≤◌, List, [], ◌∷◌, ◌++◌, length, Option, Some, None, slice_get, slice_index_or}
+use Rattle.std.specs.Prelude.{Bool, true, false, Result, Ok, Err, OnOk, OnErr, ◌≡◌, ◌⊎◌, ℕ, ℤ, zero, suc, ◌+◌, ◌-◌, ◌<◌, ◌≤◌, List, [], ◌∷◌, ◌++◌, length}
+use Rattle.std.specs.Prelude.{Option, Some, None, slice_get, slice_index_or}
 use Rattle.std.proofs.Common.{arith, sym, ◌∙◌, ap, ap₂, refl, subst, inl, inr, append_assoc, append-nil, length-append, get_or-append-add}
 use Rattle.std.proofs.lemmas.Option.{get_or_from_slice_get}
 use Rattle.std.proofs.lemmas.List.Elements.{All-nil, All-cons, All-head, All-tail, All-get_or}
@@ -20,7 +21,7 @@ use Rattle.perfect_walk.specs.States.{Task, WalkState, search_target_at}
 use Rattle.perfect_walk.specs.Next.{Moved}
 use Rattle.perfect_walk.specs.Chains.{IsWalkStep, IsWalkRun, at_visit, start_visit, start_state}
 use Rattle.perfect_walk.specs.Ends.{IsWalkedTo}
-use Rattle.perfect_walk.specs.Parts.{IsHeld, IsLess, AreLess, IsPart, IsNextHeld, IsReached}
+use Rattle.perfect_walk.specs.Parts.{task, IsHeld, IsLess, AreLess, IsPart, IsNextHeld, IsReached}
 use Rattle.perfect_walk.proofs.Runs.{run_none, run_one, run_append}
 
 -- ---- lists
@@ -73,9 +74,11 @@ module _ (T : Task) (limit : ℕ) where
 
     -- a Move that is refused for want of memory
     pub reached_memory : (w : Visit) → IsPart T limit (at_visit R.last trail.searched) trail new (turned.Moved w)
-        → (steps : List Step) → steps ≡ new.steps
-        → IsWalkedTo T limit (record { end = end.OutOfMemory; journal = record { visited = visited; steps = steps; searched = new.searched } })
-    reached_memory w P steps same = subst
+        → (now : List Visit) → now ≡ visited → (steps : List Step) → steps ≡ new.steps
+        → IsWalkedTo T limit (record { end = end.OutOfMemory; journal = record { visited = now; steps = steps; searched = new.searched } })
+    reached_memory w P now kept steps same = subst
+        (λ (vs : List Visit). IsWalkedTo T limit
+        (record { end = end.OutOfMemory; journal = record { visited = vs; steps = steps; searched = new.searched } })) (sym kept) (subst
         (λ (steps : List Step). IsWalkedTo T limit
         (record { end = end.OutOfMemory; journal = record { visited = visited; steps = steps; searched = new.searched } })) (sym same) record {
           state = P.state;
@@ -83,7 +86,7 @@ module _ (T : Task) (limit : ℕ) where
           within = P.within;
           is_end = inr (inr record
               { memory = refl; searched_is = inr record { answer = _; search = P.ends.move.search; owes = P.ends.owes; searched_is = P.ends.searched } });
-        }
+        })
 
     -- the Move
     pub reached_move : (w : Visit) → IsPart T limit (at_visit R.last trail.searched) trail new (turned.Moved w) → IsNextHeld T.s R.last (turned.Moved w)
@@ -131,6 +134,12 @@ part_at T limit v w x old new left e P = subst (λ (v : Visit). IsPart T limit (
 
 pub next_at : (s : Symmetric) (v w : Visit) (left : Turned) → v ≡ w → IsNextHeld s v left → IsNextHeld s w left
 next_at s v w left e P = subst (λ (v : Visit). IsNextHeld s v left) e P
+
+-- the same end of the walk under another name of d
+pub walked_as : (s : Symmetric) (d e : ℤ) (depth limit : ℕ) (v w : Walked) → d ≡ e → w ≡ v
+    → IsWalkedTo (task s d depth) limit v → IsWalkedTo (task s e depth) limit w
+walked_as s d e depth limit v w same is W =
+    subst (λ (w : Walked). IsWalkedTo (task s e depth) limit w) (sym is) (subst (λ (d : ℤ). IsWalkedTo (task s d depth) limit v) same W)
 
 -- ---- what an answer says, where it is one of success or not
 pub on_ok_of : {V E : Type 0} (P : Type 0) (r : Result V E) → false ≡ is_err r → OnOk r P → P

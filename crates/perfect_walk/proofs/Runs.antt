@@ -12,7 +12,8 @@ run_none T σ = (refl, refl)
 pub run_one : (T : Task) (σ τ : WalkState) (x : Step) (k : IsWalkStep T σ x τ) → IsWalkRun T σ (entered k.next) (x ∷ []) τ
 run_one T σ τ x k = (τ, [], k, sym (append-nil (entered k.next)), (refl, refl))
 
-pub run_append : (T : Task) (σ ρ τ : WalkState) (vs ws : List Visit) (xs ys : List Step) → IsWalkRun T σ vs xs ρ → IsWalkRun T ρ ws ys τ → IsWalkRun T σ (vs ++ ws) (xs ++ ys) τ
+pub run_append : (T : Task) (σ ρ τ : WalkState) (vs ws : List Visit) (xs ys : List Step) → IsWalkRun T σ vs xs ρ → IsWalkRun T ρ ws ys τ
+    → IsWalkRun T σ (vs ++ ws) (xs ++ ys) τ
 run_append T σ ρ τ vs ws [] ys h k =
     subst (λ (us : List Visit). IsWalkRun T σ (us ++ ws) ys τ) (sym h.0) (subst (λ (ρ : WalkState). IsWalkRun T ρ ws ys τ) h.1 k)
 run_append T σ ρ τ vs ws (x ∷ xs) ys (π, us, s, e, h) k =

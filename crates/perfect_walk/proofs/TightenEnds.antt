@@ -1,6 +1,7 @@
 -- What the answers on the way along a ray make of the walk.
-use Rattle.std.specs.Prelude.{◌≡◌, ◌≢◌, ℕ, zero, suc, ◌+◌, ◌<◌, ◌≤◌, ℤ, pos, Bool, true, false, ◌⊎◌, List, [], ◌∷◌, ◌++◌, map, length, Option, Some, None, if◌then◌else◌, nat_eq}
-use Rattle.std.proofs.Common.{arith, sym, ◌∙◌, ap, ap₂, refl, subst, inl, inr, append-nil, length-append, eq-eqb}
+use Rattle.std.specs.Prelude.{◌≡◌, ◌≢◌, ℕ, zero, suc, ◌+◌, ◌<◌, ◌≤◌, ℤ, pos, Bool, true, ◌⊎◌, List, [], ◌∷◌, ◌++◌, map, length, Option, Some, None}
+use Rattle.std.specs.Prelude.{if◌then◌else◌, nat_eq}
+use Rattle.std.proofs.Common.{arith, sym, ◌∙◌, ap, ap₂, refl, subst, inl, inr, length-append, eq-eqb}
 use Rattle.std.proofs.lemmas.List.{length-map}
 use Rattle.symmetric_matrix.specs.Owed.{first_owed}
 use Rattle.symmetric_matrix.specs.Symmetric.{Symmetric, entry}
@@ -13,7 +14,9 @@ use Rattle.contiguous.specs.declared.neighbour.NeighbourOp.{NeighbourOp}
 use Rattle.contiguous.specs.declared.neighbour.NeighbourOp.TheVariants as op
 use Rattle.contiguous.specs.declared.neighbour.Neighbour.{Neighbour}
 use Rattle.contiguous.specs.declared.neighbour.Neighbour.TheVariants as neighbour
-use Rattle.contiguous.specs.Tightenings.{Line, candidate, level, tighten_of, tighten_ops, neighbour_is_owed, IsNextVector, last_tighten, IsRunAlong, IsCandidateAnswer, IsFoundAnswer, IsVectorDue, IsOperationOwed, IsTightenRefused, IsWideAnswer, IsNeighbourAnswer, searched_after}
+use Rattle.contiguous.specs.Tightenings.{Line, candidate, level, tighten_of, tighten_ops, neighbour_is_owed, IsNextVector, last_tighten, IsRunAlong}
+use Rattle.contiguous.specs.Tightenings.{IsCandidateAnswer, IsFoundAnswer, IsVectorDue, IsOperationOwed, IsTightenRefused, IsWideAnswer, IsNeighbourAnswer}
+use Rattle.contiguous.specs.Tightenings.{searched_after}
 use Rattle.perfect_walk.specs.declared.journal.Visit.{Visit}
 use Rattle.perfect_walk.specs.declared.journal.Owed.{Owed}
 use Rattle.perfect_walk.specs.declared.journal.Step.{Step}
@@ -29,22 +32,16 @@ use Rattle.perfect_walk.specs.Next.{Next, Tightened, Moved, Undecided, TooWide, 
 use Rattle.perfect_walk.specs.Chains.{IsWalkRun, step_of, searched_with}
 use Rattle.perfect_walk.specs.Ends.{due_ops, walk_end_of, IsWalkEnd, IsEndByNext, IsOwedAt, Tightening}
 use Rattle.perfect_walk.specs.Parts.{IsPart, IsTurned, IsMoveDue, IsEndedAfter, IsTurnedTo, or_ray}
-use Rattle.perfect_walk.proofs.Runs.{run_none}
 use Rattle.perfect_walk.proofs.Owes.{owes_then, neighbour_some}
 use Rattle.perfect_walk.proofs.OneEnd.{is_other}
+use Rattle.perfect_walk.proofs.RayParts.{part_end, due_none}
 use Rattle.perfect_walk.proofs.Tightening.{along, l as line_of, search_after, level_after, target_after, called_after, search_none, tightens_run}
 
 -- ---- parts of the walk without a step
 pub part_memory : (T : Task) (limit : ℕ) (σ : WalkState) (old new : Trail) (left : Turned) → length old.steps ≤ limit → old.searched ≡ σ.searched
     → new.steps ≡ old.steps → new.searched ≡ old.searched → left ≡ turned.Ended end.OutOfMemory → IsPart T limit σ old new left
-part_memory T limit σ old new left within searched steps same is = record {
-  added = [];
-  state = σ;
-  steps = steps ∙ sym (append-nil old.steps);
-  run = run_none T σ;
-  within = subst (λ (xs : List Step). length xs ≤ limit) (sym steps) within;
-  ends = subst (λ (left : Turned). IsTurned T limit σ new left) (sym is) (inr (inr (record { memory = refl; searched_is = inl (same ∙ searched) })));
-}
+part_memory T limit σ old new left within searched steps same is = part_end T limit σ old new end.OutOfMemory left within steps
+    (inr (inr (record { memory = refl; searched_is = inl (same ∙ searched) }))) is
 
 -- ---- the last Tighten
 none_is : (ts : List Tighten) → last_tighten ts ≡ None → ts ≡ []
@@ -89,11 +86,6 @@ module _ (T : Task) (limit : ℕ) (v : Visit) (es : List Exchange) (x : Option S
   no_more : (ts : List Tighten) → new.steps ≡ old.steps ++ map step.Tighten ts → length ts ≤ budget → length new.steps ≤ limit
   no_more ts e h = let c = count ts e in omega arith
 
-  due_none : (σ : WalkState) (next : Next) (b : Bool) → first_owed_of (due_ops T σ true next) ≡ None → first_owed_of (due_ops T σ false next) ≡ None
-      → first_owed_of (due_ops T σ b next) ≡ None
-  due_none σ next true h k = h
-  due_none σ next false h k = k
-
   -- an end by a search of the candidate
   searched_end : (ts : List Tighten) (next : Next) (e : End) (y : Option Symmetric) → ComesNext T (at ts y) next → new.searched ≡ searched_with T (at ts y) next
       → e ≡ walk_end_of T (at ts y) next
@@ -136,7 +128,7 @@ module _ (T : Task) (limit : ℕ) (v : Visit) (es : List Exchange) (x : Option S
       → IsEndedAfter old new (map step.Tighten ts) (Some c) (end.Depth path) left → IsPart T limit (at [] x) old new left
   depth_part ts c path left A E = ended_part ts (end.Depth path) (Some c) left A.0 E (λ y steps searched.
       searched_end ts (Undecided path) (end.Depth path) y (search_is ts y c (Depth path) A.1) (searched ∙ target_is ts y c (Depth path) A.1) refl (inl refl)
-      (due_none (at ts y) (Undecided path) (nat_eq (length new.steps) limit) (search_none T v es x w called rayed ts y)
+      (due_none T (at ts y) (Undecided path) (nat_eq (length new.steps) limit) (search_none T v es x w called rayed ts y)
       (search_none T v es x w called rayed ts y)))
 
   -- what was searched last
@@ -192,13 +184,13 @@ module _ (T : Task) (limit : ℕ) (v : Visit) (es : List Exchange) (x : Option S
       by (op.Gram g) (Some c) E W = ended_part ts (end.Overflow (of_neighbour (op.Gram g))) (Some c) left A.0 E (λ y steps searched.
           searched_end ts (TooWide g) (end.Overflow (of_neighbour (op.Gram g))) y (search_is ts y c (Wide g.path g.entry) W)
           (searched ∙ target_is ts y c (Wide g.path g.entry) W) refl (inl refl)
-          (due_none (at ts y) (TooWide g) (nat_eq (length new.steps) limit) (search_none T v es x w called rayed ts y)
+          (due_none T (at ts y) (TooWide g) (nat_eq (length new.steps) limit) (search_none T v es x w called rayed ts y)
           (search_none T v es x w called rayed ts y)))
       by (op.Bound z) None E W = absurd W
       by (op.Bound z) (Some c) E W = ended_part ts (end.Overflow (of_neighbour (op.Bound z))) (Some c) left A.0 E (λ y steps searched.
           searched_end ts (BoundTooWide z) (end.Overflow (of_neighbour (op.Bound z))) y (search_is ts y c (BoundWide z) W)
           (searched ∙ target_is ts y c (BoundWide z) W) refl (inl refl)
-          (due_none (at ts y) (BoundTooWide z) (nat_eq (length new.steps) limit) (search_none T v es x w called rayed ts y)
+          (due_none T (at ts y) (BoundTooWide z) (nat_eq (length new.steps) limit) (search_none T v es x w called rayed ts y)
           (search_none T v es x w called rayed ts y)))
 
   -- the Tighten or the Move is refused

@@ -1,5 +1,6 @@
 -- The tightenings along a ray as steps of the walk, and the answers on the way as ends of the walk.
-use Rattle.std.specs.Prelude.{◌≡◌, ◌≢◌, ℕ, zero, suc, ◌+◌, ◌<◌, ◌≤◌, ℤ, pos, Bool, true, false, ◌⊎◌, List, [], ◌∷◌, ◌++◌, map, length, Option, Some, None, if◌then◌else◌, nat_eq}
+use Rattle.std.specs.Prelude.{◌≡◌, ◌≢◌, ℕ, zero, suc, ◌+◌, ◌<◌, ◌≤◌, ℤ, pos, Bool, true, false, ◌⊎◌, List, [], ◌∷◌, ◌++◌, map, length, Option, Some, None}
+use Rattle.std.specs.Prelude.{if◌then◌else◌, nat_eq}
 use Rattle.std.proofs.Common.{arith, sym, ◌∙◌, ap, ap₂, refl, subst, inl, inr, append_assoc, append-nil, length-append, eq-eqb}
 use Rattle.std.proofs.lemmas.List.{length-map}
 use Rattle.symmetric_matrix.specs.Owed.{first_owed}
@@ -11,7 +12,10 @@ use Rattle.exact_lp.specs.declared.placed.Exchange.{Exchange}
 use Rattle.contiguous.specs.declared.neighbour.Tighten.{Tighten}
 use Rattle.contiguous.specs.declared.neighbour.NeighbourOp.{NeighbourOp}
 use Rattle.contiguous.specs.declared.neighbour.NeighbourOp.TheVariants as op
-use Rattle.contiguous.specs.Tightenings.{Line, candidate, level, tighten_of, tighten_ops, neighbour_is_owed, CallsFor, IsNextVector, AreNextTightens, AreTightens, last_tighten, tightens_ops, IsRunAlong, IsCandidateAnswer, IsFoundAnswer, IsVectorDue, IsOperationOwed, IsTightenRefused, searched_after}
+use Rattle.contiguous.specs.Tightenings.{Line, candidate, level, tighten_of, tighten_ops, neighbour_is_owed, CallsFor, IsNextVector, AreNextTightens}
+use Rattle.contiguous.specs.Tightenings.{AreTightens, last_tighten, tightens_ops, IsRunAlong, IsCandidateAnswer, IsFoundAnswer, IsVectorDue, IsOperationOwed}
+use Rattle.contiguous.specs.Tightenings.{IsTightenRefused, searched_after}
+use Rattle.contiguous.proofs.Ways.{last_push}
 use Rattle.perfect_walk.specs.declared.journal.Visit.{Visit}
 use Rattle.perfect_walk.specs.declared.journal.Owed.{Owed}
 use Rattle.perfect_walk.specs.declared.journal.Step.{Step}
@@ -24,12 +28,6 @@ use Rattle.perfect_walk.proofs.Runs.{run_none, run_one, run_append}
 use Rattle.perfect_walk.proofs.Owes.{nothing, owes_then, owes_first, neighbour_none, neighbour_some}
 
 -- ---- lists of Tightens
-pub last-append : (ts : List Tighten) (t : Tighten) → last_tighten (ts ++ t ∷ []) ≡ Some t
-unfolding last_tighten
-last-append [] t = refl
-last-append (s ∷ []) t = refl
-last-append (s ∷ u ∷ us) t = last-append (u ∷ us) t
-
 last_one : (t : Tighten) → last_tighten (t ∷ []) ≡ Some t
 unfolding last_tighten
 last_one t = refl
@@ -103,10 +101,11 @@ module _ (T : Task) (v : Visit) (es : List Exchange) where
   pub more_tightens : (us ts : List Tighten) (x : Option Symmetric) (t : Tighten) → last_tighten ts ≡ Some t → AreNextTightens l T.depth t us
       → first_owed neighbour_is_owed (tightens_ops l us) ≡ None
       → (y : Option Symmetric) × IsWalkRun T (along ts x) [] (map step.Tighten us) (along (ts ++ us) y)
-  more_tightens [] ts x t e h owes = (x, subst (λ (us : List Tighten). IsWalkRun T (along ts x) [] [] (along us x)) (sym (append-nil ts)) (run_none T (along ts x)))
+  more_tightens [] ts x t e h owes =
+      (x, subst (λ (us : List Tighten). IsWalkRun T (along ts x) [] [] (along us x)) (sym (append-nil ts)) (run_none T (along ts x)))
   more_tightens (u ∷ us) ts x t e h owes =
       let s : Option Symmetric = Some (search_target_at T (along ts x)) in
-      let rest = more_tightens us (ts ++ u ∷ []) s u (last-append ts u) h.2 (rest_none l u us owes) in
+      let rest = more_tightens us (ts ++ u ∷ []) s u (last_push ts u) h.2 (rest_none l u us owes) in
       let one : IsWalkRun T (along ts x) [] (step.Tighten u ∷ []) (along (ts ++ u ∷ []) s) = run_one T (along ts x) (along (ts ++ u ∷ []) s)
       (step.Tighten u) record {
         next = Tightened u;
@@ -117,7 +116,8 @@ module _ (T : Task) (v : Visit) (es : List Exchange) where
       } in (
         rest.0,
         run_append T (along ts x) (along (ts ++ u ∷ []) s) (along (ts ++ u ∷ us) rest.0) [] [] (step.Tighten u ∷ []) (map step.Tighten us) one
-            (subst (λ (vs : List Tighten). IsWalkRun T (along (ts ++ u ∷ []) s) [] (map step.Tighten us) (along vs rest.0)) (append_assoc ts (u ∷ []) us) rest.1),
+            (subst (λ (vs : List Tighten). IsWalkRun T (along (ts ++ u ∷ []) s) [] (map step.Tighten us) (along vs rest.0)) (append_assoc ts (u ∷ []) us)
+            rest.1),
       )
 
   -- ---- from the ray on

@@ -111,11 +111,12 @@ abbrev pub IsNextHeld : Symmetric → Visit → Turned → Type 0
 IsNextHeld s v (turned.Moved w) = IsHeld s.size w × IsLess s v w
 IsNextHeld s v (turned.Ended e) = Unit {0}
 
-pub record IsReadyAlong (T : Task) (limits : Limits) (s : Symmetric) (σ : WalkState) (v : Visit) (old : Trail) : Type 0 where
-  pub matrix : T.s ≡ s
-  pub depth : T.depth ≡ limits.depth
-  pub visit : σ.visit ≡ v
-  pub searched : old.searched ≡ σ.searched
+pub record IsReadyAlong (T : Task) (limits : Limits) (s : Symmetric) (σ : WalkState) (v : Visit) (old : Trail) : Type 0
+  where
+    pub matrix : T.s ≡ s
+    pub depth : T.depth ≡ limits.depth
+    pub visit : σ.visit ≡ v
+    pub searched : old.searched ≡ σ.searched
 
 -- the ray was made at a state where the linear program gave Outside
 pub record IsOnRay (T : Task) (σ : WalkState) (ray : Symmetric) : Type 0 where

@@ -5,13 +5,14 @@ use Rattle.std.proofs.lemmas.Int.{ints}
 use Rattle.std.specs.List.{Contains}
 use Rattle.exact_forms.specs.Forms.{IsSymmetric}
 use Rattle.exact_forms.specs.Slacks.{AreNonnegative}
-use Rattle.unimodular_cone.specs.Paths.{Path, IsAbove, IsNoLater}
+use Rattle.unimodular_cone.specs.Paths.{Path, IsAbove}
 use Rattle.unimodular_cone.specs.declared.WideEntry.{WideEntry}
 use Rattle.unimodular_cone.specs.Cones.{Matrix, gram, value, cone_at, unit_vectors, Fits}
 use Rattle.unimodular_cone.specs.declared.Mode.{Mode}
 use Rattle.unimodular_cone.specs.declared.Mode.TheVariants.{Sign, Least}
 use Rattle.unimodular_cone.specs.Tree.{CanSplit, IsLowValue, IsLow, IsFinalBound, IsOpen, IsFirstOverBelow}
-use Rattle.unimodular_cone.specs.Answer.{coordinate, Attains, IsIncreasing, SearchAnswer, Found, Copositive, Depth, IsSearchAnswer, IsClosedAnswer, IsClear, IsListOf, IsOpenAnswer, BoundFits}
+use Rattle.unimodular_cone.specs.Answer.{coordinate, Attains, IsIncreasing, SearchAnswer, Found, Copositive, Depth, IsSearchAnswer, IsClosedAnswer, IsClear}
+use Rattle.unimodular_cone.specs.Answer.{IsListOf, IsOpenAnswer, BoundFits}
 use Rattle.search_core.specs.Fair.{Fate, Judged, bound_under, IsSplit, HasPath, IsFair, code, code_of, start_word, least_value, IsLowFate}
 use Rattle.search_core.proofs.PathFates.{IsClosedUnder}
 use Rattle.search_core.proofs.ShownFates.{judged_fate}
@@ -22,10 +23,12 @@ use Rattle.search_core.proofs.LeastValues.{least_value_attained, start_is_large}
 use Rattle.unimodular_cone.proofs.Minimum.{nonneg_place}
 use Rattle.unimodular_cone.proofs.Tree.{above_child, none_above_root, HasChildren, StopsAt, descend_from_root}
 use Rattle.search_core.proofs.Settle.{IsLimitFate, split_or_limit, split_can}
-use Rattle.search_core.proofs.Fairness.{judged_in_tree, none_low, low_is_judged, limit_is_open, settles_low, settles_open, settles_none_open}
+use Rattle.search_core.proofs.Fairness.{NoLowBefore, NoOpenBefore, judged_in_tree, none_low, low_is_judged, limit_is_open, settles_low, settles_open}
+use Rattle.search_core.proofs.Fairness.{settles_none_open}
 use Rattle.search_core.proofs.Bound.{final_bound_Least}
 
-pub final_bound : (m : Mode) (n : ℕ) (q : Matrix) (d : ℕ) (judged : List Judged) (final : ℕ) → IsSymmetric n q → IsFair m n q d judged final → d ≤ 200 → 256 ≤ final → 0 < n → BoundFits m n q
+pub final_bound : (m : Mode) (n : ℕ) (q : Matrix) (d : ℕ) (judged : List Judged) (final : ℕ) → IsSymmetric n q → IsFair m n q d judged final → d ≤ 200
+    → 256 ≤ final → 0 < n → BoundFits m n q
     → IsFinalBound m n q d (bound_under m final)
 final_bound Sign n q d judged final s fair small large some narrow = refl
 final_bound Least n q d judged final s fair small large some narrow = final_bound_Least n q d judged final s fair small large some narrow
@@ -52,7 +55,8 @@ module _ (m : Mode) (n : ℕ) (q : Matrix) (d : ℕ) (judged : List Judged) (fin
   pub some_low : final < 256 → (j : Judged) × Contains judged j × IsLowFate j.fate × (length j.path ≡ final)
   some_low lt = by fair.final_word.attained
     where
-      by : ((final ≡ start_word m n q) ⊎ ((j : Judged) × Contains judged j × (final ≡ code m n q j.path))) → (j : Judged) × Contains judged j × IsLowFate j.fate × (length j.path ≡ final)
+      by : ((final ≡ start_word m n q) ⊎ ((j : Judged) × Contains judged j × (final ≡ code m n q j.path)))
+          → (j : Judged) × Contains judged j × IsLowFate j.fate × (length j.path ≡ final)
       by (inl e) = absurd (let h : 256 ≤ start_word m n q = start_is_large m _ in omega arith)
       by (inr (j, c, e)) =
           let z = code_is_low m (length j.path) (least_value n q (cone_at n q j.path)) (omega arith) in
@@ -62,8 +66,9 @@ module _ (m : Mode) (n : ℕ) (q : Matrix) (d : ℕ) (judged : List Judged) (fin
           let k = low_is_judged m n q d judged final s fair j.path (judged_in_tree m n q d judged final s fair j c) low (omega arith) in
           (k.0, k.1, k.3, ap length k.2 ∙ k.4)
 
-  pub answers_low : BoundFits m n q → Fits n q unit_vectors → (j : Judged) → Contains judged j → (which : ℕ) → j.fate ≡ Fate.Low (suc which) → length j.path ≡ final
-      → ((k : Judged) → Contains judged k → IsLowFate k.fate → length k.path ≡ final → IsNoLater j.path k.path)
+  pub answers_low : BoundFits m n q → Fits n q unit_vectors → (j : Judged) → Contains judged j → (which : ℕ) → j.fate ≡ Fate.Low (suc which)
+      → length j.path ≡ final
+      → NoLowBefore judged final j
       → (x : List ℕ) (z : ℤ) → IsListOf n x (cone_at n q j.path which) → value n q (cone_at n q j.path) which ≡ z
       → IsSearchAnswer m n q d (SearchAnswer.Low x z j.path)
   answers_low narrow root_fits j c which e depth first x z vector val =
@@ -79,17 +84,24 @@ module _ (m : Mode) (n : ℕ) (q : Matrix) (d : ℕ) (judged : List Judged) (fin
     is_bound = final_bound m n q d judged final s fair small large some narrow
 
     open_answer : (j : Judged) → Contains judged j → IsOpen n q d (bound_under m final) j.path
-        → ((k : Judged) → Contains judged k → IsLimitFate n q d k.path k.fate → IsOpen n q d (bound_under m final) k.path → IsNoLater j.path k.path)
+        → NoOpenBefore m n q d judged final j
         → IsOpenAnswer m n q d j.path
-    open_answer j c o first = record { clear = clear; bound = bound_under m final; is_bound = is_bound; first_open = settles_open m n q d judged final s fair small large j c o first }
+    open_answer j c o first =
+        record {
+          clear = clear;
+          bound = bound_under m final;
+          is_bound = is_bound;
+          first_open = settles_open m n q d judged final s fair small large j c o first;
+        }
 
     pub answers_depth : (j : Judged) → Contains judged j → length j.path ≡ d → IsOpen n q d (bound_under m final) j.path
-        → ((k : Judged) → Contains judged k → IsLimitFate n q d k.path k.fate → IsOpen n q d (bound_under m final) k.path → IsNoLater j.path k.path)
+        → NoOpenBefore m n q d judged final j
         → IsSearchAnswer m n q d (Depth j.path)
     answers_depth j c e o first = (open_answer j c o first, e)
 
-    pub answers_wide : (j : Judged) → Contains judged j → length j.path < d → (at_path : Path) (entry : WideEntry) → IsFirstOverBelow n q j.path at_path entry → IsOpen n q d (bound_under m final) j.path
-        → ((k : Judged) → Contains judged k → IsLimitFate n q d k.path k.fate → IsOpen n q d (bound_under m final) k.path → IsNoLater j.path k.path)
+    pub answers_wide : (j : Judged) → Contains judged j → length j.path < d → (at_path : Path) (entry : WideEntry) → IsFirstOverBelow n q j.path at_path entry
+        → IsOpen n q d (bound_under m final) j.path
+        → NoOpenBefore m n q d judged final j
         → IsSearchAnswer m n q d (SearchAnswer.Wide at_path entry)
     answers_wide j c lt at_path entry w o first = inr (j.path, open_answer j c o first, lt, w)
 
@@ -108,12 +120,15 @@ module _ (m : Mode) (n : ℕ) (q : Matrix) (d : ℕ) (judged : List Judged) (fin
           at_above not_closed a (inl e) h = not_closed (subst (λ (r : Path). IsClosedUnder m n q r final) e h)
           at_above not_closed a (inr k) h = w.above a k h
 
-          at_fate : (¬ IsClosedUnder m n q p final) → (j : Judged) → Contains judged j → j.path ≡ p → (IsSplit j.fate ⊎ IsLimitFate n q d j.path j.fate) → HasChildren n q (IsJudgedWay m n q judged final) p
+          at_fate : (¬ IsClosedUnder m n q p final) → (j : Judged) → Contains judged j → j.path ≡ p → (IsSplit j.fate ⊎ IsLimitFate n q d j.path j.fate)
+              → HasChildren n q (IsJudgedWay m n q judged final) p
           at_fate not_closed j c same (inr f) = absurd (none j c f (limit_is_open m n q d judged final s fair j c f
               (λ h. not_closed (subst (λ (r : Path). IsClosedUnder m n q r final) same h))
               (λ a k. w.above a (subst (IsAbove a) same k))))
           at_fate not_closed j c same (inl split) =
-              let can : CanSplit n q (cone_at n q p) = subst (λ (r : Path). CanSplit n q (cone_at n q r)) same (split_can m n q d j.path j.fate (judged_fate m n q d final j (fair.judgements j c)) split).0 in
+              let can : CanSplit n q (cone_at n q p) =
+              subst (λ (r : Path). CanSplit n q (cone_at n q r)) same
+              (split_can m n q d j.path j.fate (judged_fate m n q d final j (fair.judgements j c)) split).0 in
               record {
                 i = can.i;
                 j = can.j;
@@ -126,10 +141,12 @@ module _ (m : Mode) (n : ℕ) (q : Matrix) (d : ℕ) (judged : List Judged) (fin
 
           at_judged : (¬ IsClosedUnder m n q p final) → HasPath judged p → HasChildren n q (IsJudgedWay m n q judged final) p
           at_judged not_closed (j, c, same) = at_fate not_closed j c same
-              (split_or_limit m n q d final j.path j.fate small large (judged_fate m n q d final j (fair.judgements j c)) (fair.judgements j c).above_final (judged_in_tree m n q d judged final s fair j c).short
+              (split_or_limit m n q d final j.path j.fate small large (judged_fate m n q d final j (fair.judgements j c)) (fair.judgements j c).above_final
+              (judged_in_tree m n q d judged final s fair j c).short
               (λ h. not_closed (subst (λ (r : Path). IsClosedUnder m n q r final) same h)))
 
-          by : (IsClosedUnder m n q p final ⊎ (¬ IsClosedUnder m n q p final)) → IsClosedUnder m n q p final ⊎ HasChildren n q (IsJudgedWay m n q judged final) p
+          by : (IsClosedUnder m n q p final ⊎ (¬ IsClosedUnder m n q p final))
+              → IsClosedUnder m n q p final ⊎ HasChildren n q (IsJudgedWay m n q judged final) p
           by (inl closed) = inl closed
           by (inr not_closed) = inr (at_judged not_closed w.has)
 
@@ -139,49 +156,60 @@ module _ (m : Mode) (n : ℕ) (q : Matrix) (d : ℕ) (judged : List Judged) (fin
           (record { has = fair.due [] (inl refl); above = λ a h. absurd (none_above_root a h) }) nonneg
 
 -- ---- the closed answers
-pub attaining_is_judged : (n : ℕ) (q : Matrix) (d : ℕ) (judged : List Judged) (final : ℕ) → IsSymmetric n q → IsFair Least n q d judged final → d ≤ 200 → 0 < n → 256 ≤ final → BoundFits Least n q → Fits n q unit_vectors
-    → ((k : Judged) → Contains judged k → IsLimitFate n q d k.path k.fate → ¬ IsOpen n q d (bound_under Least final) k.path)
-    → (x : List ℕ) → Attains n q (bound_under Least final) x
-    → (j : Judged) × (k : ℕ) × Contains judged j × (k < n) × ((p : ℕ) → p < n → coordinate x p ≡ cone_at n q j.path k p)
-attaining_is_judged n q d judged final s fair small some large narrow root_fits none x h =
-    let r = lies_in_judged Least n q d judged final s fair small some large narrow root_fits none (coordinate x) (nonneg_place n x) in
-    let g = closed_attains n q (cone_at n q r.path) (bound_under Least final) (coordinate x) s (bound_positive final) r.stops r.lies h.nonzero h.value in
-    by r.path r.reached.has g.0 g.1 g.2
-  where
-    by : (p : Path) → HasPath judged p → (k : ℕ) → k < n → ((i : ℕ) → i < n → coordinate x i ≡ cone_at n q p k i) → (j : Judged) × (k : ℕ) × Contains judged j × (k < n) × ((p : ℕ) → p < n → coordinate x p ≡ cone_at n q j.path k p)
-    by p (j, c, same) k l e = (j, k, c, l, λ i li. e i li ∙ ap (λ (w : Path). cone_at n q w k i) (sym same))
-
 -- vectors lists the generators of judged cones whose value is z
 pub record ListsJudged (n : ℕ) (q : Matrix) (judged : List Judged) (z : ℤ) (vectors : List (List ℕ)) : Type 0 where
-  pub each : (x : List ℕ) → Contains vectors x → (j : Judged) × (k : ℕ) × Contains judged j × (k < n) × IsListOf n x (cone_at n q j.path k) × (value n q (cone_at n q j.path) k ≡ z)
-  pub all : (j : Judged) (k : ℕ) (x : List ℕ) → Contains judged j → k < n → IsListOf n x (cone_at n q j.path k) → value n q (cone_at n q j.path) k ≡ z → Contains vectors x
+  pub each : (x : List ℕ) → Contains vectors x → (j : Judged) × (k : ℕ) × Contains judged j × (k < n) × IsListOf n x (cone_at n q j.path k)
+      × (value n q (cone_at n q j.path) k ≡ z)
+  pub all : (j : Judged) (k : ℕ) (x : List ℕ) → Contains judged j → k < n → IsListOf n x (cone_at n q j.path k) → value n q (cone_at n q j.path) k ≡ z
+      → Contains vectors x
   pub increasing : IsIncreasing vectors
 
-pub answers_found : (n : ℕ) (q : Matrix) (d : ℕ) (judged : List Judged) (final : ℕ) → IsSymmetric n q → IsFair Least n q d judged final → d ≤ 200 → 0 < n → 256 ≤ final → BoundFits Least n q → Fits n q unit_vectors
-    → ((k : Judged) → Contains judged k → IsLimitFate n q d k.path k.fate → ¬ IsOpen n q d (bound_under Least final) k.path)
-    → (vectors : List (List ℕ)) → ListsJudged n q judged (bound_under Least final) vectors
-    → IsSearchAnswer Least n q d (Found (bound_under Least final) vectors)
-answers_found n q d judged final s fair small some large narrow root_fits none vectors lists = (
-  refl,
-  closed_answer Least n q d judged final s fair small some large narrow root_fits none,
-  record { each = each; all = all; increasing = lists.increasing },
-)
-  where
-    each : (x : List ℕ) → Contains vectors x → Attains n q (bound_under Least final) x
-    each x c = by (lists.each x c)
-      where
-        by : ((j : Judged) × (k : ℕ) × Contains judged j × (k < n) × IsListOf n x (cone_at n q j.path k) × (value n q (cone_at n q j.path) k ≡ bound_under Least final)) → Attains n q (bound_under Least final) x
-        by (j, k, cj, l, vector, e) =
-            let nz : IsNonzeroBelow n (cone_at n q j.path k) = (proper n q j.path).nonzero k l in
-            record { size = vector.size; nonzero = (nz.0, nz.1, λ z. nz.2 (sym (vector.same nz.0 nz.1) ∙ z)); value = value_same n q (coordinate x) (cone_at n q j.path k) vector.same ∙ e }
+module _ (n : ℕ) (q : Matrix) (d : ℕ) (judged : List Judged) (final : ℕ) (s : IsSymmetric n q) (fair : IsFair Least n q d judged final) (small : d ≤ 200)
+    (some : 0 < n) (large : 256 ≤ final) (narrow : BoundFits Least n q) (root_fits : Fits n q unit_vectors)
+    (none : (k : Judged) → Contains judged k → IsLimitFate n q d k.path k.fate → ¬ IsOpen n q d (bound_under Least final) k.path) where
+  pub attaining_is_judged : (x : List ℕ) → Attains n q (bound_under Least final) x
+      → (j : Judged) × (k : ℕ) × Contains judged j × (k < n) × ((p : ℕ) → p < n → coordinate x p ≡ cone_at n q j.path k p)
+  attaining_is_judged x h =
+      let r = lies_in_judged Least n q d judged final s fair small some large narrow root_fits none (coordinate x) (nonneg_place n x) in
+      let g = closed_attains n q (cone_at n q r.path) (bound_under Least final) (coordinate x) s (bound_positive final) r.stops r.lies h.nonzero h.value in
+      by r.path r.reached.has g.0 g.1 g.2
+    where
+      by : (p : Path) → HasPath judged p → (k : ℕ) → k < n → ((i : ℕ) → i < n → coordinate x i ≡ cone_at n q p k i) → (j : Judged) ×
+          (k : ℕ) × Contains judged j × (k < n) × ((p : ℕ) → p < n → coordinate x p ≡ cone_at n q j.path k p)
+      by p (j, c, same) k l e = (j, k, c, l, λ i li. e i li ∙ ap (λ (w : Path). cone_at n q w k i) (sym same))
 
-    all : (x : List ℕ) → Attains n q (bound_under Least final) x → Contains vectors x
-    all x a = by (attaining_is_judged n q d judged final s fair small some large narrow root_fits none x a)
-      where
-        by : ((j : Judged) × (k : ℕ) × Contains judged j × (k < n) × ((p : ℕ) → p < n → coordinate x p ≡ cone_at n q j.path k p)) → Contains vectors x
-        by (j, k, cj, l, same) = lists.all j k x cj l (record { size = a.size; same = same }) (sym (value_same n q (coordinate x) (cone_at n q j.path k) same) ∙ a.value)
+  pub answers_found : (vectors : List (List ℕ)) → ListsJudged n q judged (bound_under Least final) vectors
+      → IsSearchAnswer Least n q d (Found (bound_under Least final) vectors)
+  answers_found vectors lists = (
+    refl,
+    closed_answer Least n q d judged final s fair small some large narrow root_fits none,
+    record { each = each; all = all; increasing = lists.increasing },
+  )
+    where
+      each : (x : List ℕ) → Contains vectors x → Attains n q (bound_under Least final) x
+      each x c = by (lists.each x c)
+        where
+          by : ((j : Judged) × (k : ℕ) × Contains judged j × (k < n) × IsListOf n x (cone_at n q j.path k) ×
+              (value n q (cone_at n q j.path) k ≡ bound_under Least final)) → Attains n q (bound_under Least final) x
+          by (j, k, cj, l, vector, e) =
+              let nz : IsNonzeroBelow n (cone_at n q j.path k) = (proper n q j.path).nonzero k l in
+              record {
+                size = vector.size;
+                nonzero = (nz.0, nz.1, λ z. nz.2 (sym (vector.same nz.0 nz.1) ∙ z));
+                value = value_same n q (coordinate x)
+                    (cone_at n q j.path k) vector.same ∙ e;
+              }
 
-pub answers_copositive : (n : ℕ) (q : Matrix) (d : ℕ) (judged : List Judged) (final : ℕ) → IsSymmetric n q → IsFair Sign n q d judged final → d ≤ 200 → 0 < n → 256 ≤ final → Fits n q unit_vectors
+      all : (x : List ℕ) → Attains n q (bound_under Least final) x → Contains vectors x
+      all x a = by (attaining_is_judged x a)
+        where
+          by : ((j : Judged) × (k : ℕ) × Contains judged j × (k < n) × ((p : ℕ) → p < n → coordinate x p ≡ cone_at n q j.path k p)) → Contains vectors x
+          by (j, k, cj, l, same) = lists.all j k x cj l (record { size = a.size; same = same })
+              (sym (value_same n q (coordinate x) (cone_at n q j.path k) same) ∙ a.value)
+
+pub answers_copositive : (n : ℕ) (q : Matrix) (d : ℕ) (judged : List Judged) (final : ℕ) → IsSymmetric n q → IsFair Sign n q d judged final → d ≤ 200 → 0 < n
+    → 256 ≤ final → Fits n q unit_vectors
     → ((k : Judged) → Contains judged k → IsLimitFate n q d k.path k.fate → ¬ IsOpen n q d (bound_under Sign final) k.path)
     → IsSearchAnswer Sign n q d Copositive
-answers_copositive n q d judged final s fair small some large root_fits none = (refl, closed_answer Sign n q d judged final s fair small some large tt root_fits none)
+answers_copositive n q d judged final s fair small some large root_fits none =
+    (refl, closed_answer Sign n q d judged final s fair small some large tt root_fits none)

@@ -14,7 +14,8 @@ use Rattle.search_core.proofs.PathFates.{IsClosedUnder}
 use Rattle.search_core.proofs.ShownFates.{judged_fate}
 use Rattle.unimodular_cone.proofs.Covers.{generator_lies, closed_at_least}
 use Rattle.unimodular_cone.proofs.Generators.{proper}
-use Rattle.search_core.proofs.LeastValues.{least_value_le, least_value_attained, least_diagonal_le, least_diagonal_attained, root_value, code_not_low, start_not_low, bound_at, bound_within, abs_le}
+use Rattle.search_core.proofs.LeastValues.{least_value_le, least_value_attained, least_diagonal_le, least_diagonal_attained, root_value, code_not_low}
+use Rattle.search_core.proofs.LeastValues.{start_not_low, bound_at, bound_within, abs_le}
 use Rattle.unimodular_cone.proofs.Tree.{lies_above_path, in_tree_root}
 use Rattle.unimodular_cone.proofs.Minimum.{not_low_Least}
 use Rattle.search_core.proofs.Settle.{split_or_closed}
@@ -47,7 +48,8 @@ module _ (n : ℕ) (q : Matrix) (d : ℕ) (judged : List Judged) (final : ℕ) (
       let h : least_diagonal n q ≤ℤ q narrow.0 narrow.0 = least_diagonal_le n q narrow.0 narrow.1 in
       let p : pos 1 ≤ℤ least_diagonal n q = diagonal_positive in
       let t : q narrow.0 narrow.0 ≤ℤ pos (2 ^ 63 - 1) = narrow.2 in
-      let a : nat_abs (least_diagonal n q) ≤ nat_abs (pos (2 ^ 63 - 1)) = abs_le (least_diagonal n q) (pos (2 ^ 63 - 1)) (omega (arith, ints)) (omega (arith, ints)) in
+      let a : nat_abs (least_diagonal n q) ≤ nat_abs (pos (2 ^ 63 - 1)) =
+      abs_le (least_diagonal n q) (pos (2 ^ 63 - 1)) (omega (arith, ints)) (omega (arith, ints)) in
       omega arith
 
   attained : (p : Path) × (k : ℕ) × IsInTree n q d p × (k < n) × (value n q (cone_at n q p) k ≡ bound_under Least final)
@@ -72,7 +74,9 @@ module _ (n : ℕ) (q : Matrix) (d : ℕ) (judged : List Judged) (final : ℕ) (
     where
       go : (rest done : Path) → done ++ rest ≡ p → HasPath judged done → HasPath judged p ⊎ ((a : Path) × IsAbove a p × IsClosedUnder Least n q a final)
       go [] done e h = inl (subst (HasPath judged) (sym (append_nil done) ∙ e) h)
-      go (side ∷ rest) done e (j, c, same) = by (split_or_closed Least n q d final j.path p j.fate small large (judged_fate Least n q d final j (fair.judgements j c)) (fair.judgements j c).above_final above t) (go rest)
+      go (side ∷ rest) done e (j, c, same) =
+          by (split_or_closed Least n q d final j.path p j.fate small large (judged_fate Least n q d final j (fair.judgements j c))
+          (fair.judgements j c).above_final above t) (go rest)
         where
           above : IsAbove j.path p
           above = (side, rest, sym e ∙ ap (λ (w : Path). w ++ side ∷ rest) (sym same))

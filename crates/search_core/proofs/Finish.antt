@@ -5,8 +5,10 @@ use Rattle.std.specs.List.{Contains}
 use Rattle.unimodular_cone.specs.Paths.{Path}
 use Rattle.unimodular_cone.specs.Cones.{Matrix}
 use Rattle.unimodular_cone.specs.declared.Mode.{Mode}
-use Rattle.search_core.specs.Fair.{Fate, Closed, Split, Low, Dropped, AtLimit, Wide, Judged, code, start_word, IsSplit, HasPath, IsDue, HasNoPath, IsOnceEach, IsFair}
-use Rattle.search_core.specs.Machine.{Hand, Empty, Offered, State, children_of, held, in_hands, paths, standing, below_splits, due, times, IsCoded, IsKept, AreEmpty, IsStart, IsEnd}
+use Rattle.search_core.specs.Fair.{Fate, Closed, Split, Low, Dropped, AtLimit, Wide, Judged, code, start_word, IsSplit, HasPath, IsDue, HasNoPath, IsOnceEach}
+use Rattle.search_core.specs.Fair.{IsFair}
+use Rattle.search_core.specs.Machine.{Hand, Empty, Offered, State, children_of, held, in_hands, paths, standing, below_splits, due, times, IsCoded, IsKept}
+use Rattle.search_core.specs.Machine.{AreEmpty, IsStart, IsEnd}
 use Rattle.exact_forms.proofs.Vectors.{contains_here, contains_there, contains_cons}
 use Rattle.search_core.proofs.Times.{times-append, times_cons, times_same, times_other, times_none, path_or_not, due_once}
 use Rattle.search_core.proofs.Kept.{times_standing}
@@ -53,7 +55,8 @@ has_path x (j ∷ judged) h = by (path_or_not x j.path) (has_path x judged)
   where
     by : ((x ≡ j.path) ⊎ (x ≢ j.path)) → (1 ≤ times x (paths judged) → HasPath judged x) → HasPath (j ∷ judged) x
     by (inl e) rec = (j, contains_here j judged, sym e)
-    by (inr ne) rec = let r = rec (let o : times x (j.path ∷ paths judged) ≡ times x (paths judged) = times_other x j.path (paths judged) ne in omega arith) in (r.0, contains_there j judged r.0 r.1, r.2)
+    by (inr ne) rec = let r = rec (let o : times x (j.path ∷ paths judged) ≡ times x (paths judged) = times_other x j.path (paths judged) ne in omega arith) in
+        (r.0, contains_there j judged r.0 r.1, r.2)
 
 pub stands_judged : (judged : List Judged) (j : Judged) → Contains judged j → 1 ≤ times j.path (paths judged)
 stands_judged [] j (k, l, e) = absurd (omega arith)
@@ -66,7 +69,8 @@ stands_judged (i ∷ judged) j c = by (contains_cons i judged j c) (stands_judge
 in_split : (f : Fate) (r : Path) (side : Bool) → IsSplit f → 1 ≤ times (r ++ side ∷ []) (children_of r f)
 in_split (Closed w) r side h = absurd h
 in_split (Split i j w) r false h = omega (arith, times_same (r ++ false ∷ []) (r ++ false ∷ []) ((r ++ true ∷ []) ∷ []) refl)
-in_split (Split i j w) r true h = omega (arith, times_cons (r ++ true ∷ []) (r ++ false ∷ []) ((r ++ true ∷ []) ∷ []), times_same (r ++ true ∷ []) (r ++ true ∷ []) [] refl)
+in_split (Split i j w) r true h =
+    omega (arith, times_cons (r ++ true ∷ []) (r ++ false ∷ []) ((r ++ true ∷ []) ∷ []), times_same (r ++ true ∷ []) (r ++ true ∷ []) [] refl)
 in_split (Low k) r side h = absurd h
 in_split (Dropped w) r side h = absurd h
 in_split (AtLimit w) r side h = absurd h
@@ -76,7 +80,8 @@ in_below_splits : (judged : List Judged) (j : Judged) (side : Bool) → Contains
 in_below_splits [] j side (k, l, e) split = absurd (omega arith)
 in_below_splits (i ∷ judged) j side c split = by (contains_cons i judged j c) (λ c. in_below_splits judged j side c split)
   where
-    by : ((i ≡ j) ⊎ Contains judged j) → (Contains judged j → 1 ≤ times (j.path ++ side ∷ []) (below_splits judged)) → 1 ≤ times (j.path ++ side ∷ []) (children_of i.path i.fate ++ below_splits judged)
+    by : ((i ≡ j) ⊎ Contains judged j) → (Contains judged j → 1 ≤ times (j.path ++ side ∷ []) (below_splits judged))
+        → 1 ≤ times (j.path ++ side ∷ []) (children_of i.path i.fate ++ below_splits judged)
     by (inl e) rec = subst (λ (u : Judged). 1 ≤ times (j.path ++ side ∷ []) (children_of u.path u.fate ++ below_splits judged)) (sym e)
         (let h = in_split j.fate j.path side split in omega (arith, times-append (j.path ++ side ∷ []) (children_of j.path j.fate) (below_splits judged)))
     by (inr c) rec = let h = rec c in omega (arith, times-append (j.path ++ side ∷ []) (children_of i.path i.fate) (below_splits judged))
@@ -94,20 +99,25 @@ from_children x r (Split i j w) h = (tt, by (path_or_not x (r ++ false ∷ [])) 
     by : ((x ≡ r ++ false ∷ []) ⊎ (x ≢ r ++ false ∷ [])) → ((x ≡ r ++ true ∷ []) ⊎ (x ≢ r ++ true ∷ [])) → (side : Bool) × (x ≡ r ++ side ∷ [])
     by (inl e) g = (false, e)
     by (inr ne) (inl e) = (true, e)
-    by (inr ne) (inr ne') = absurd (omega (arith, times_other x (r ++ false ∷ []) ((r ++ true ∷ []) ∷ []) ne, times_other x (r ++ true ∷ []) [] ne', times_none x))
+    by (inr ne) (inr ne') =
+        absurd (omega (arith, times_other x (r ++ false ∷ []) ((r ++ true ∷ []) ∷ []) ne, times_other x (r ++ true ∷ []) [] ne', times_none x))
 from_children x r (Low k) h = absurd (omega (arith, times_none x))
 from_children x r (Dropped w) h = absurd (omega (arith, times_none x))
 from_children x r (AtLimit w) h = absurd (omega (arith, times_none x))
 from_children x r (Wide w at) h = absurd (omega (arith, times_none x))
 
-pub from_below_splits : (x : Path) (judged : List Judged) → 1 ≤ times x (below_splits judged) → (j : Judged) × (side : Bool) × Contains judged j × IsSplit j.fate × (x ≡ j.path ++ side ∷ [])
+pub from_below_splits : (x : Path) (judged : List Judged) → 1 ≤ times x (below_splits judged)
+    → (j : Judged) × (side : Bool) × Contains judged j × IsSplit j.fate × (x ≡ j.path ++ side ∷ [])
 from_below_splits x [] h = absurd (omega (arith, times_none x))
-from_below_splits x (j ∷ judged) h = by (here (times x (children_of j.path j.fate)) (times x (below_splits judged)) (omega (arith, times-append x (children_of j.path j.fate) (below_splits judged)))) (from_below_splits x judged)
+from_below_splits x (j ∷ judged) h =
+    by (here (times x (children_of j.path j.fate)) (times x (below_splits judged))
+    (omega (arith, times-append x (children_of j.path j.fate) (below_splits judged)))) (from_below_splits x judged)
   where
     here : (a b : ℕ) → 1 ≤ a + b → (1 ≤ a) ⊎ (1 ≤ b)
     here a b h = grind arith
 
-    by : ((1 ≤ times x (children_of j.path j.fate)) ⊎ (1 ≤ times x (below_splits judged))) → (1 ≤ times x (below_splits judged) → (i : Judged) × (side : Bool) × Contains judged i × IsSplit i.fate × (x ≡ i.path ++ side ∷ []))
+    by : ((1 ≤ times x (children_of j.path j.fate)) ⊎ (1 ≤ times x (below_splits judged)))
+        → (1 ≤ times x (below_splits judged) → (i : Judged) × (side : Bool) × Contains judged i × IsSplit i.fate × (x ≡ i.path ++ side ∷ []))
         → (i : Judged) × (side : Bool) × Contains (j ∷ judged) i × IsSplit i.fate × (x ≡ i.path ++ side ∷ [])
     by (inl a) rec = let r = from_children x j.path j.fate a in (j, r.1.0, contains_here j judged, r.0, r.1.1)
     by (inr b) rec = let r = rec b in (r.0, r.1, contains_there j judged r.0 r.2, r.3, r.4)
@@ -117,17 +127,23 @@ from_due x judged h = by (path_or_not x [])
   where
     by : ((x ≡ []) ⊎ (x ≢ [])) → IsDue judged x
     by (inl e) = inl e
-    by (inr ne) = inr (from_below_splits x judged (let o : times x (due judged) ≡ times x (below_splits judged) = times_other x [] (below_splits judged) ne in omega arith))
+    by (inr ne) =
+        inr (from_below_splits x judged (let o : times x (due judged) ≡ times x (below_splits judged) = times_other x [] (below_splits judged) ne in
+        omega arith))
 
 -- ---- no path twice
 no_path : (x : Path) (judged : List Judged) → times x (paths judged) ≡ 0 → HasNoPath judged x
 no_path x [] h = tt
-no_path x (j ∷ judged) h = ((λ e. (let s : times x (j.path ∷ paths judged) ≡ 1 + times x (paths judged) = times_same x j.path (paths judged) (sym e) in omega arith)), no_path x judged (omega (arith, times_cons x j.path (paths judged))))
+no_path x (j ∷ judged) h = (
+  (λ e. (let s : times x (j.path ∷ paths judged) ≡ 1 + times x (paths judged) = times_same x j.path (paths judged) (sym e) in omega arith)),
+  no_path x judged (omega (arith, times_cons x j.path (paths judged))),
+)
 
 once_each : (judged : List Judged) → ((x : Path) → times x (paths judged) ≤ 1) → IsOnceEach judged
 once_each [] h = tt
 once_each (j ∷ judged) h = (
-  no_path j.path judged (let a : times j.path (j.path ∷ paths judged) ≤ 1 = h j.path in let s : times j.path (j.path ∷ paths judged) ≡ 1 + times j.path (paths judged) = times_same j.path j.path (paths judged) refl in omega arith),
+  no_path j.path judged (let a : times j.path (j.path ∷ paths judged) ≤ 1 = h j.path in
+      let s : times j.path (j.path ∷ paths judged) ≡ 1 + times j.path (paths judged) = times_same j.path j.path (paths judged) refl in omega arith),
   once_each judged (λ x. (let a : times x (j.path ∷ paths judged) ≤ 1 = h x in omega (arith, times_cons x j.path (paths judged)))),
 )
 
@@ -141,7 +157,8 @@ pub are_due : (judged : List Judged) → ((x : Path) → times x (paths judged) 
 are_due judged counts = record {
   due = λ x h. has_path x judged (let a = stands_due judged x h in let b = counts x in omega arith);
   no_other = λ j c. from_due j.path judged (let a = stands_judged judged j c in let b = counts j.path in omega arith);
-  once = once_each judged (λ x. (let a = counts x in let b : times x (due judged) ≤ 1 = due_once judged (λ y. (let c = counts y in omega arith)) x in omega arith));
+  once = once_each judged (λ x. (let a = counts x in let b : times x (due judged) ≤ 1 = due_once judged (λ y. (let c = counts y in omega arith)) x in
+      omega arith));
 }
 
 -- ---- the end
@@ -163,7 +180,8 @@ end_is_fair m n q d s kept ends = record {
     paths_due : AreDue s.judged
     paths_due = are_due s.judged (λ x. judged_is_standing x ∙ kept.stands x)
 
-    attained : ((s.word ≡ start_word m n q) ⊎ ((p : Path) × IsCoded s p × (s.word ≡ code m n q p))) → (s.word ≡ start_word m n q) ⊎ ((j : Judged) × Contains s.judged j × (s.word ≡ code m n q j.path))
+    attained : ((s.word ≡ start_word m n q) ⊎ ((p : Path) × IsCoded s p × (s.word ≡ code m n q p)))
+        → (s.word ≡ start_word m n q) ⊎ ((j : Judged) × Contains s.judged j × (s.word ≡ code m n q j.path))
     attained (inl e) = inl e
     attained (inr (p, (inl (j, c, e)), f)) = inr (j, c, f ∙ ap (code m n q) (sym e))
     attained (inr (p, (inr (k, w, l, e)), f)) = absurd (not_offered (ends.hands k) e)

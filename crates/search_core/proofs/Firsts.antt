@@ -17,13 +17,15 @@ use Rattle.search_core.specs.Scans.{FindsFirst, IsBefore, IsBehind}
 pub earlier_is : (p r : Path) → MatchBool (is_lt (place_order p r)) (IsNoLater p r) (IsNoLater r p)
 earlier_is p r = by (place_order p r) (place_order_is p r)
   where
-    by : (o : Ordering) → MatchOrdering o (IsNoLater p r × (¬ IsNoLater r p)) (p ≡ r) (IsNoLater r p × (¬ IsNoLater p r)) → MatchBool (is_lt o) (IsNoLater p r) (IsNoLater r p)
+    by : (o : Ordering) → MatchOrdering o (IsNoLater p r × (¬ IsNoLater r p)) (p ≡ r) (IsNoLater r p × (¬ IsNoLater p r))
+        → MatchBool (is_lt o) (IsNoLater p r) (IsNoLater r p)
     by Less h = h.0
     by Equal h = subst (λ (w : Path). IsNoLater w p) h (no_later_self p)
     by Greater h = h.0
 
 -- ---- one more judgement
-kept : (P : Judged → Type 0) (xs : List Judged) (j : Judged) (best : Option Judged) → FindsFirst P xs best → ((¬ P j) ⊎ IsBehind j best) → FindsFirst P (xs ++ j ∷ []) best
+kept : (P : Judged → Type 0) (xs : List Judged) (j : Judged) (best : Option Judged) → FindsFirst P xs best → ((¬ P j) ⊎ IsBehind j best)
+    → FindsFirst P (xs ++ j ∷ []) best
 kept P xs j None h (inl no_p) = λ k c p. by k p (Contains-push_cases xs j k c)
   where
     by : (k : Judged) → P k → (Contains xs k ⊎ (j ≡ k)) → ⊥
@@ -41,7 +43,8 @@ kept P xs j (Some b) h not_it = record {
     by k p (inr e) (inl no_p) = absurd (no_p (subst P (sym e) p))
     by k p (inr e) (inr behind) = subst (λ (w : Judged). IsNoLater b.path w.path) e behind
 
-found : (P : Judged → Type 0) (xs : List Judged) (j : Judged) (best : Option Judged) → FindsFirst P xs best → P j → IsBefore j best → FindsFirst P (xs ++ j ∷ []) (Some j)
+found : (P : Judged → Type 0) (xs : List Judged) (j : Judged) (best : Option Judged) → FindsFirst P xs best → P j → IsBefore j best
+    → FindsFirst P (xs ++ j ∷ []) (Some j)
 found P xs j best h p before = record { member = Contains-push xs j; holds = p; first = λ k c pk. by k pk (Contains-push_cases xs j k c) best h before }
   where
     by : (k : Judged) → P k → (Contains xs k ⊎ (j ≡ k)) → (best : Option Judged) → FindsFirst P xs best → IsBefore j best → IsNoLater j.path k.path
@@ -58,7 +61,8 @@ first_kept P xs k j best l is h not_it = subst (λ (w : List Judged). FindsFirst
 
 pub first_found : (P : Judged → Type 0) (xs : List Judged) (k : ℕ) (j : Judged) (best : Option Judged) → k < length xs → j ≡ slice_index_or xs k j
     → FindsFirst P (take k xs) best → P j → IsBefore j best → FindsFirst P (take (k + 1) xs) (Some j)
-first_found P xs k j best l is h p before = subst (λ (w : List Judged). FindsFirst P w (Some j)) (more_judged xs k j l is) (found P (take k xs) j best h p before)
+first_found P xs k j best l is h p before =
+    subst (λ (w : List Judged). FindsFirst P w (Some j)) (more_judged xs k j l is) (found P (take k xs) j best h p before)
 
 pub first_none : (P : Judged → Type 0) (j : Judged) → Contains [] j → ¬ P j
 first_none P j (k, l, e) p = omega arith

@@ -8,11 +8,14 @@ use Rattle.unimodular_cone.specs.Cones.{Matrix, cone_at}
 use Rattle.unimodular_cone.specs.declared.Mode.{Mode}
 use Rattle.unimodular_cone.specs.declared.Mode.TheVariants.{Sign, Least}
 use Rattle.unimodular_cone.specs.Tree.{IsLow, IsLowValue}
-use Rattle.search_core.specs.Fair.{Fate, Closed, Split, Low, Dropped, AtLimit, Wide, Judged, word_of, least_value, code_of, code, start_word, IsFate, IsJudgement}
-use Rattle.search_core.specs.Machine.{Hand, Empty, Taken, Offered, State, hand, children_of, IsTake, IsOffer, IsJudge, held, in_hands, paths, standing, below_splits, due, times, IsCoded, IsKept}
+use Rattle.search_core.specs.Fair.{Fate, Closed, Split, Low, Dropped, AtLimit, Wide, Judged, word_of, least_value, code_of, code, start_word, IsFate}
+use Rattle.search_core.specs.Fair.{IsJudgement}
+use Rattle.search_core.specs.Machine.{Hand, Empty, Taken, Offered, State, hand, children_of, IsTake, IsOffer, IsJudge, held, in_hands, paths, standing}
+use Rattle.search_core.specs.Machine.{below_splits, due, times, IsCoded, IsKept}
 use Rattle.search_core.proofs.PathFates.{IsPathFate}
 use Rattle.search_core.proofs.ShownFates.{path_fate}
 use Rattle.std.proofs.lemmas.List.Elements.{Contains-push, Contains-append_left, Contains-push_cases}
+use Rattle.commutative_ring.proofs.SmallCases.{same_or_not}
 use Rattle.search_core.proofs.LeastValues.{least_value_le}
 use Rattle.search_core.proofs.Times.{times-append, times_cons, times_hands, times_none, times_paths_append, times_below_append}
 
@@ -33,9 +36,6 @@ pub length_hands : (hands : List Hand) (k : ℕ) (h : Hand) → length (slice_se
 length_hands [] k h = refl
 length_hands (g ∷ hands) zero h = refl
 length_hands (g ∷ hands) (suc k) h = ap suc (length_hands hands k h)
-
-number_or_not : (i k : ℕ) → (i ≡ k) ⊎ (i ≢ k)
-number_or_not i k = grind arith
 
 -- ---- counts
 pub times_standing : (x : Path) (s : State) → times x (standing s) ≡ times x s.waiting + times x (in_hands s.hands) + times x (paths s.judged)
@@ -62,7 +62,8 @@ pub record IsOwn (m : Mode) (n : ℕ) (q : Matrix) (d final : ℕ) (p : Path) (f
   pub above_final : final ≤ word_of p f
   pub below_code : word_of p f ≤ code m n q p
 
-pub own_word : (m : Mode) (n : ℕ) (q : Matrix) (d final word : ℕ) (p : Path) (f : Fate) → IsFate m n q d p word f → final ≤ word → word ≤ code m n q p → final ≤ code m n q p → IsOwn m n q d final p f
+pub own_word : (m : Mode) (n : ℕ) (q : Matrix) (d final word : ℕ) (p : Path) (f : Fate) → IsFate m n q d p word f → final ≤ word → word ≤ code m n q p
+    → final ≤ code m n q p → IsOwn m n q d final p f
 own_word m n q d final word p (Closed w) h le below low = let e : w ≡ word = h.2.0 in
     record { fate = subst (λ (u : ℕ). IsFate m n q d p u (Closed w)) (sym e) h; above_final = omega arith; below_code = omega arith }
 own_word m n q d final word p (Split i j w) h le below low = let e : w ≡ word = h.2.0 in
@@ -86,7 +87,7 @@ take_keeps m n q d s t k path kept step = record {
   below_start = rw step.word kept.below_start;
   below_codes = λ p c. rw step.word (kept.below_codes p (back p c));
   attained = attained kept.attained;
-  noted = λ i p w l e. rw step.word (noted i p w l e (number_or_not i k));
+  noted = λ i p w l e. rw step.word (noted i p w l e (same_or_not i k));
   judgements = λ j c. rw step.word (kept.judgements j (subst (λ (w : List Judged). Contains w j) step.judged c));
 }
   where
@@ -101,24 +102,34 @@ take_keeps m n q d s t k path kept step = record {
         let w : times x s.waiting ≡ times x (step.before ++ path ∷ step.after) = ap (times x) step.was in
         let v : times x t.waiting ≡ times x (step.before ++ step.after) = ap (times x) step.waiting in
         let j : times x (paths t.judged) ≡ times x (paths s.judged) = ap (λ (u : List Judged). times x (paths u)) step.judged in
-        omega (arith, hands_times x, times_standing x s, times_standing x t, times-append x step.before (path ∷ step.after), times-append x step.before step.after, times_cons x path step.after)
+        omega (
+          arith,
+          hands_times x,
+          times_standing x s,
+          times_standing x t,
+          times-append x step.before (path ∷ step.after),
+          times-append x step.before step.after,
+          times_cons x path step.after,
+        )
 
     offered_before : (i : ℕ) (p : Path) (w : ℕ) → hand t i ≡ Offered p w → ((i ≡ k) ⊎ (i ≢ k)) → hand s i ≡ Offered p w
     offered_before i p w e (inl same) =
-        let a : hand t i ≡ Taken path = ap (λ (u : List Hand). slice_index_or u i Empty) step.hands ∙ ap (λ (u : ℕ). slice_index_or (slice_set s.hands k (Taken path)) u Empty) same ∙ hand_same s.hands k (Taken path) step.worker in
+        let a : hand t i ≡ Taken path = ap (λ (u : List Hand). slice_index_or u i Empty) step.hands
+        ∙ ap (λ (u : ℕ). slice_index_or (slice_set s.hands k (Taken path)) u Empty) same ∙ hand_same s.hands k (Taken path) step.worker in
         absurd (let b : Taken path ≡ Offered p w = sym a ∙ e in cc)
     offered_before i p w e (inr ne) = sym (hand_other s.hands k i (Taken path) ne) ∙ sym (ap (λ (u : List Hand). slice_index_or u i Empty) step.hands) ∙ e
 
     worker_before : (i : ℕ) → i < length t.hands → i < length s.hands
-    worker_before i l = let h : length t.hands ≡ length s.hands = ap (λ (u : List Hand). length u) step.hands ∙ length_hands s.hands k (Taken path) in omega arith
+    worker_before i l = let h : length t.hands ≡ length s.hands = ap (λ (u : List Hand). length u) step.hands ∙ length_hands s.hands k (Taken path) in
+        omega arith
 
     back : (p : Path) → IsCoded t p → IsCoded s p
     back p (inl (j, c, e)) = inl (j, subst (λ (w : List Judged). Contains w j) step.judged c, e)
-    back p (inr (i, w, l, e)) = inr (i, w, worker_before i l, offered_before i p w e (number_or_not i k))
+    back p (inr (i, w, l, e)) = inr (i, w, worker_before i l, offered_before i p w e (same_or_not i k))
 
     forth : (p : Path) → IsCoded s p → IsCoded t p
     forth p (inl (j, c, e)) = inl (j, subst (λ (w : List Judged). Contains w j) (sym step.judged) c, e)
-    forth p (inr (i, w, l, e)) = by (number_or_not i k)
+    forth p (inr (i, w, l, e)) = by (same_or_not i k)
       where
         by : ((i ≡ k) ⊎ (i ≢ k)) → IsCoded t p
         by (inl same) = absurd (let a : hand s i ≡ Empty = ap (hand s) same ∙ step.empty in let b : Empty ≡ Offered p w = sym a ∙ e in cc)
@@ -129,7 +140,8 @@ take_keeps m n q d s t k path kept step = record {
           ap (λ (u : List Hand). slice_index_or u i Empty) step.hands ∙ hand_other s.hands k i (Taken path) ne ∙ e,
         )
 
-    attained : ((s.word ≡ start_word m n q) ⊎ ((p : Path) × IsCoded s p × (s.word ≡ code m n q p))) → (t.word ≡ start_word m n q) ⊎ ((p : Path) × IsCoded t p × (t.word ≡ code m n q p))
+    attained : ((s.word ≡ start_word m n q) ⊎ ((p : Path) × IsCoded s p × (s.word ≡ code m n q p)))
+        → (t.word ≡ start_word m n q) ⊎ ((p : Path) × IsCoded t p × (t.word ≡ code m n q p))
     attained (inl e) = inl (step.word ∙ e)
     attained (inr (p, c, e)) = inr (p, forth p c, step.word ∙ e)
 
@@ -143,7 +155,7 @@ offer_keeps m n q d s t k kept step = record {
   below_start = (let h : s.word ≤ start_word m n q = kept.below_start in let f = falls in omega arith);
   below_codes = below_codes;
   attained = attained kept.attained;
-  noted = λ i p w l e. noted i p w l e (number_or_not i k);
+  noted = λ i p w l e. noted i p w l e (same_or_not i k);
   judgements = λ j c. lower j (kept.judgements j (subst (λ (w : List Judged). Contains w j) step.judged c));
 }
   where
@@ -166,48 +178,71 @@ offer_keeps m n q d s t k kept step = record {
     same_standing x =
         let h = times_hands x s.hands k (Offered step.path t.word) step.worker in
         let g : times x (held (hand s k)) ≡ times x (step.path ∷ []) = ap (λ (w : Hand). times x (held w)) step.taken in
-        let i : times x (in_hands t.hands) ≡ times x (in_hands (slice_set s.hands k (Offered step.path t.word))) = ap (λ (w : List Hand). times x (in_hands w)) step.hands in
+        let i : times x (in_hands t.hands) ≡ times x (in_hands (slice_set s.hands k (Offered step.path t.word))) =
+        ap (λ (w : List Hand). times x (in_hands w)) step.hands in
         let w : times x t.waiting ≡ times x s.waiting = ap (times x) step.waiting in
         let j : times x (paths t.judged) ≡ times x (paths s.judged) = ap (λ (u : List Judged). times x (paths u)) step.judged in
         omega (arith, times_standing x s, times_standing x t)
 
     offered_now : (i : ℕ) (p : Path) (w : ℕ) → hand t i ≡ Offered p w → i ≡ k → (p ≡ step.path) × (w ≡ t.word)
-    offered_now i p w e same = let a : Offered p w ≡ Offered step.path t.word = sym e ∙ ap (λ (u : ℕ). slice_index_or t.hands u Empty) same ∙ hand_is in ((cc), (cc))
+    offered_now i p w e same = let a : Offered p w ≡ Offered step.path t.word = sym e ∙ ap (λ (u : ℕ). slice_index_or t.hands u Empty) same ∙ hand_is in
+        ((cc), (cc))
 
     below_codes : (p : Path) → IsCoded t p → t.word ≤ code m n q p
-    below_codes p (inl (j, c, e)) = let h : s.word ≤ code m n q p = kept.below_codes p (inl (j, subst (λ (w : List Judged). Contains w j) step.judged c, e)) in let f = falls in omega arith
-    below_codes p (inr (i, w, l, e)) = by (number_or_not i k)
+    below_codes p (inl (j, c, e)) = let h : s.word ≤ code m n q p = kept.below_codes p (inl (j, subst (λ (w : List Judged). Contains w j) step.judged c, e)) in
+        let f = falls in omega arith
+    below_codes p (inr (i, w, l, e)) = by (same_or_not i k)
       where
         by : ((i ≡ k) ⊎ (i ≢ k)) → t.word ≤ code m n q p
         by (inl same) = subst (λ (r : Path). t.word ≤ code m n q r) (sym (offered_now i p w e same).0) falls.1
-        by (inr ne) = let h : s.word ≤ code m n q p = kept.below_codes p (inr (i, w, (let g : length t.hands ≡ length s.hands = same_length in omega arith), sym (hand_was i ne) ∙ e)) in let f = falls in omega arith
+        by (inr ne) = let h : s.word ≤ code m n q p =
+            kept.below_codes p (inr (i, w, (let g : length t.hands ≡ length s.hands = same_length in omega arith), sym (hand_was i ne) ∙ e)) in let f = falls in
+            omega arith
 
     forth : (p : Path) → IsCoded s p → IsCoded t p
     forth p (inl (j, c, e)) = inl (j, subst (λ (w : List Judged). Contains w j) (sym step.judged) c, e)
-    forth p (inr (i, w, l, e)) = by (number_or_not i k)
+    forth p (inr (i, w, l, e)) = by (same_or_not i k)
       where
         by : ((i ≡ k) ⊎ (i ≢ k)) → IsCoded t p
         by (inl same) = absurd (let a : hand s i ≡ Taken step.path = ap (hand s) same ∙ step.taken in let b : Taken step.path ≡ Offered p w = sym a ∙ e in cc)
         by (inr ne) = inr (i, w, (let g : length t.hands ≡ length s.hands = same_length in omega arith), hand_was i ne ∙ e)
 
-    attained : ((s.word ≡ start_word m n q) ⊎ ((p : Path) × IsCoded s p × (s.word ≡ code m n q p))) → (t.word ≡ start_word m n q) ⊎ ((p : Path) × IsCoded t p × (t.word ≡ code m n q p))
+    attained : ((s.word ≡ start_word m n q) ⊎ ((p : Path) × IsCoded s p × (s.word ≡ code m n q p)))
+        → (t.word ≡ start_word m n q) ⊎ ((p : Path) × IsCoded t p × (t.word ≡ code m n q p))
     attained old = by (which s.word (code m n q step.path) t.word step.word) old
       where
         which : (a b c : ℕ) → c ≡ min a b → (c ≡ a) ⊎ (c ≡ b)
         which a b c e = grind arith
 
-        by : ((t.word ≡ s.word) ⊎ (t.word ≡ code m n q step.path)) → ((s.word ≡ start_word m n q) ⊎ ((p : Path) × IsCoded s p × (s.word ≡ code m n q p))) → (t.word ≡ start_word m n q) ⊎ ((p : Path) × IsCoded t p × (t.word ≡ code m n q p))
+        by : ((t.word ≡ s.word) ⊎ (t.word ≡ code m n q step.path)) → ((s.word ≡ start_word m n q) ⊎ ((p : Path) × IsCoded s p × (s.word ≡ code m n q p)))
+            → (t.word ≡ start_word m n q) ⊎ ((p : Path) × IsCoded t p × (t.word ≡ code m n q p))
         by (inl e) (inl f) = inl (e ∙ f)
         by (inl e) (inr (p, c, f)) = inr (p, forth p c, e ∙ f)
-        by (inr e) f = inr (step.path, inr (k, t.word, (let g : length t.hands ≡ length s.hands = same_length in let w : k < length s.hands = step.worker in omega arith), hand_is), e)
+        by (inr e) f =
+            inr (
+              step.path,
+              inr (
+                k,
+                t.word,
+                (let g : length t.hands ≡ length s.hands = same_length in let w : k < length s.hands = step.worker in omega arith),
+                hand_is,
+              ),
+              e,
+            )
 
     noted : (i : ℕ) (p : Path) (w : ℕ) → i < length t.hands → hand t i ≡ Offered p w → ((i ≡ k) ⊎ (i ≢ k)) → (t.word ≤ w) × (w ≤ code m n q p)
     noted i p w l e (inl same) = let o = offered_now i p w e same in let x : w ≡ t.word = o.1 in
         (omega arith, subst (λ (r : Path). w ≤ code m n q r) (sym o.0) (let f = falls in omega arith))
-    noted i p w l e (inr ne) = let h = kept.noted i p w (let g : length t.hands ≡ length s.hands = same_length in omega arith) (sym (hand_was i ne) ∙ e) in let f = falls in (omega arith, h.1)
+    noted i p w l e (inr ne) = let h = kept.noted i p w (let g : length t.hands ≡ length s.hands = same_length in omega arith) (sym (hand_was i ne) ∙ e) in
+        let f = falls in (omega arith, h.1)
 
     lower : (j : Judged) → IsJudgement m n q d s.word j → IsJudgement m n q d t.word j
-    lower j h = record { least = h.least; fate = h.fate; above_final = (let a : s.word ≤ word_of j.path j.fate = h.above_final in let f = falls in omega arith); below_code = h.below_code }
+    lower j h = record {
+      least = h.least;
+      fate = h.fate;
+      above_final = (let a : s.word ≤ word_of j.path j.fate = h.above_final in let f = falls in omega arith);
+      below_code = h.below_code;
+    }
 
 -- ---- Judge
 pub judge_keeps : (m : Mode) (n : ℕ) (q : Matrix) (d : ℕ) (s t : State) (k : ℕ) → IsKept m n q d s → IsJudge m n q d s k t → IsKept m n q d t
@@ -216,7 +251,7 @@ judge_keeps m n q d s t k kept step = record {
   below_start = rw step.word kept.below_start;
   below_codes = λ p c. rw step.word (kept.below_codes p (back p c));
   attained = attained kept.attained;
-  noted = λ i p w l e. rw step.word (noted i p w l e (number_or_not i k));
+  noted = λ i p w l e. rw step.word (noted i p w l e (same_or_not i k));
   judgements = λ j c. rw step.word (judgements j (Contains-push_cases s.judged new j (subst (λ (w : List Judged). Contains w j) step.judged c)));
 }
   where
@@ -244,12 +279,19 @@ judge_keeps m n q d s t k kept step = record {
         let h = in_hand x in
         let w : times x t.waiting ≡ times x (s.waiting ++ children_of step.path step.fate) = ap (times x) step.waiting in
         let j : times x (paths t.judged) ≡ times x (paths (s.judged ++ new ∷ [])) = ap (λ (u : List Judged). times x (paths u)) step.judged in
-        omega (arith, times_standing x s, times_standing x t, times-append x s.waiting (children_of step.path step.fate), times_paths_append x s.judged (new ∷ []))
+        omega (
+          arith,
+          times_standing x s,
+          times_standing x t,
+          times-append x s.waiting (children_of step.path step.fate),
+          times_paths_append x s.judged (new ∷ []),
+        )
 
     due_grown : (x : Path) → times x (due t.judged) ≡ times x (due s.judged) + times x (children_of step.path step.fate)
     due_grown x =
         let j : times x (due t.judged) ≡ times x ([] ∷ below_splits (s.judged ++ new ∷ [])) = ap (λ (u : List Judged). times x (due u)) step.judged in
-        let c : times x (below_splits (new ∷ [])) ≡ times x (children_of step.path step.fate) = times-append x (children_of step.path step.fate) [] ∙ omega (arith, times_none x) in
+        let c : times x (below_splits (new ∷ [])) ≡ times x (children_of step.path step.fate) = times-append x (children_of step.path step.fate) []
+        ∙ omega (arith, times_none x) in
         omega (arith, times_cons x [] (below_splits s.judged), times_cons x [] (below_splits (s.judged ++ new ∷ [])), times_below_append x s.judged (new ∷ []))
 
     not_now : (i : ℕ) (p : Path) (w : ℕ) → hand t i ≡ Offered p w → i ≡ k → ⊥
@@ -261,7 +303,7 @@ judge_keeps m n q d s t k kept step = record {
         by : (Contains s.judged j ⊎ (new ≡ j)) → IsCoded s p
         by (inl c) = inl (j, c, e)
         by (inr same) = inr (k, step.noted, step.worker, step.offered ∙ ap (λ (r : Path). Offered r step.noted) (ap (λ (u : Judged). u.path) same ∙ e))
-    back p (inr (i, w, l, e)) = by (number_or_not i k)
+    back p (inr (i, w, l, e)) = by (same_or_not i k)
       where
         by : ((i ≡ k) ⊎ (i ≢ k)) → IsCoded s p
         by (inl same) = absurd (not_now i p w e same)
@@ -269,7 +311,7 @@ judge_keeps m n q d s t k kept step = record {
 
     forth : (p : Path) → IsCoded s p → IsCoded t p
     forth p (inl (j, c, e)) = inl (j, subst (λ (w : List Judged). Contains w j) (sym step.judged) (Contains-append_left s.judged (new ∷ []) j c), e)
-    forth p (inr (i, w, l, e)) = by (number_or_not i k)
+    forth p (inr (i, w, l, e)) = by (same_or_not i k)
       where
         by : ((i ≡ k) ⊎ (i ≢ k)) → IsCoded t p
         by (inl same) =
@@ -277,7 +319,8 @@ judge_keeps m n q d s t k kept step = record {
             inl (new, subst (λ (u : List Judged). Contains u new) (sym step.judged) (Contains-push s.judged new), (cc))
         by (inr ne) = inr (i, w, (let g : length t.hands ≡ length s.hands = same_length in omega arith), hand_was i ne ∙ e)
 
-    attained : ((s.word ≡ start_word m n q) ⊎ ((p : Path) × IsCoded s p × (s.word ≡ code m n q p))) → (t.word ≡ start_word m n q) ⊎ ((p : Path) × IsCoded t p × (t.word ≡ code m n q p))
+    attained : ((s.word ≡ start_word m n q) ⊎ ((p : Path) × IsCoded s p × (s.word ≡ code m n q p)))
+        → (t.word ≡ start_word m n q) ⊎ ((p : Path) × IsCoded t p × (t.word ≡ code m n q p))
     attained (inl e) = inl (step.word ∙ e)
     attained (inr (p, c, e)) = inr (p, forth p c, step.word ∙ e)
 
@@ -289,5 +332,7 @@ judge_keeps m n q d s t k kept step = record {
     judgements j (inl c) = kept.judgements j c
     judgements j (inr same) =
         let b = kept.noted k step.path step.noted step.worker step.offered in
-        let o : IsOwn m n q d s.word step.path step.fate = own_word m n q d s.word step.noted step.path step.fate step.is_fate b.0 b.1 (kept.below_codes step.path (inr (k, step.noted, step.worker, step.offered))) in
+        let o : IsOwn m n q d s.word step.path step.fate =
+        own_word m n q d s.word step.noted step.path step.fate step.is_fate b.0 b.1
+        (kept.below_codes step.path (inr (k, step.noted, step.worker, step.offered))) in
         subst (IsJudgement m n q d s.word) same (record { least = refl; fate = o.fate; above_final = o.above_final; below_code = o.below_code })

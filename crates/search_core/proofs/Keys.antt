@@ -39,13 +39,15 @@ key_equal : (x y : List ℕ) → key_order x y ≡ Equal → x ≡ y
 key_equal [] [] e = refl
 key_equal [] (b ∷ y) e = absurd (cc)
 key_equal (a ∷ x) [] e = absurd (cc)
-key_equal (a ∷ x) (b ∷ y) e = let h = then_equal (nat_cmp a b) (key_order x y) e in ap₂ (λ (c : ℕ) (z : List ℕ). c ∷ z) (number_equal a b h.0) (key_equal x y h.1)
+key_equal (a ∷ x) (b ∷ y) e = let h = then_equal (nat_cmp a b) (key_order x y) e in
+    ap₂ (λ (c : ℕ) (z : List ℕ). c ∷ z) (number_equal a b h.0) (key_equal x y h.1)
 
 zeros_equal : (x y : List ℕ) → length x ≡ length y → ((p : ℕ) → slice_index_or x p 0 ≡ 0) → ((p : ℕ) → slice_index_or y p 0 ≡ 0) → x ≡ y
 zeros_equal [] [] l hx hy = refl
 zeros_equal [] (b ∷ y) l hx hy = absurd (omega arith)
 zeros_equal (a ∷ x) [] l hx hy = absurd (omega arith)
-zeros_equal (a ∷ x) (b ∷ y) l hx hy = ap₂ (λ (c : ℕ) (z : List ℕ). c ∷ z) (hx 0 ∙ sym (hy 0)) (zeros_equal x y (omega arith) (λ p. hx (suc p)) (λ p. hy (suc p)))
+zeros_equal (a ∷ x) (b ∷ y) l hx hy =
+    ap₂ (λ (c : ℕ) (z : List ℕ). c ∷ z) (hx 0 ∙ sym (hy 0)) (zeros_equal x y (omega arith) (λ p. hx (suc p)) (λ p. hy (suc p)))
 
 key_order_self : (x : List ℕ) → key_order x x ≡ Equal
 key_order_self [] = refl
@@ -57,7 +59,8 @@ key_order_self (a ∷ x) = by (nat_cmp a a) (ranks a a) (key_order_self x)
     by Greater h rec = absurd (omega arith)
 
 -- the vectors are in the order of their keys
-pub less_comes_before : (n : ℕ) (x y : List ℕ) → length x ≡ length y → ((p : ℕ) → n ≤ p → slice_index_or x p 0 ≡ 0) → ((p : ℕ) → n ≤ p → slice_index_or y p 0 ≡ 0)
+pub less_comes_before : (n : ℕ) (x y : List ℕ) → length x ≡ length y → ((p : ℕ) → n ≤ p → slice_index_or x p 0 ≡ 0)
+    → ((p : ℕ) → n ≤ p → slice_index_or y p 0 ≡ 0)
     → key_order x y ≡ Less → ComesBefore (take n x) (take n y)
 less_comes_before n [] [] l hx hy e = absurd (cc)
 less_comes_before n [] (b ∷ y) l hx hy e = absurd (omega arith)
@@ -69,9 +72,11 @@ less_comes_before zero (a ∷ x) (b ∷ y) l hx hy e = absurd (no (ap (key_order
 
     no : key_order (a ∷ x) (a ∷ x) ≡ Less → ⊥
     no f = let g : key_order (a ∷ x) (a ∷ x) ≡ Equal = key_order_self (a ∷ x) in let h : Less ≡ Equal = sym f ∙ g in cc
-less_comes_before (suc n) (a ∷ x) (b ∷ y) l hx hy e = by (nat_cmp a b) (ranks a b) e (less_comes_before n x y (omega arith) (λ p lp. hx (suc p) (omega arith)) (λ p lp. hy (suc p) (omega arith)))
+less_comes_before (suc n) (a ∷ x) (b ∷ y) l hx hy e =
+    by (nat_cmp a b) (ranks a b) e (less_comes_before n x y (omega arith) (λ p lp. hx (suc p) (omega arith)) (λ p lp. hy (suc p) (omega arith)))
   where
-    by : (o : Ordering) → MatchOrdering o (a < b) (a ≡ b) (b < a) → ordering_then o (key_order x y) ≡ Less → (key_order x y ≡ Less → ComesBefore (take n x) (take n y)) → (a < b) ⊎ ((a ≡ b) × ComesBefore (take n x) (take n y))
+    by : (o : Ordering) → MatchOrdering o (a < b) (a ≡ b) (b < a) → ordering_then o (key_order x y) ≡ Less
+        → (key_order x y ≡ Less → ComesBefore (take n x) (take n y)) → (a < b) ⊎ ((a ≡ b) × ComesBefore (take n x) (take n y))
     by Less h e rec = inl h
     by Equal h e rec = inr (h, rec e)
     by Greater h e rec = absurd (cc)
@@ -81,7 +86,8 @@ insert_has : (keys : List (List ℕ)) (k x : List ℕ) → Contains keys x → C
 insert_has [] k x (i, l, e) = absurd (omega arith)
 insert_has (y ∷ ys) k x c = by (key_order k y) (insert_has ys k x) (contains_cons y ys x c)
   where
-    by : (o : Ordering) → (Contains ys x → Contains (insert_key key_order ys k) x) → ((y ≡ x) ⊎ Contains ys x) → Contains (match_ordering o (k ∷ y ∷ ys) (y ∷ ys) (y ∷ insert_key key_order ys k)) x
+    by : (o : Ordering) → (Contains ys x → Contains (insert_key key_order ys k) x) → ((y ≡ x) ⊎ Contains ys x)
+        → Contains (match_ordering o (k ∷ y ∷ ys) (y ∷ ys) (y ∷ insert_key key_order ys k)) x
     by Less rec h = contains_there k (y ∷ ys) x c
     by Equal rec h = c
     by Greater rec (inl e) = subst (λ (z : List ℕ). Contains (y ∷ insert_key key_order ys k) z) e (contains_here y (insert_key key_order ys k))
@@ -91,7 +97,8 @@ insert_new : (keys : List (List ℕ)) (k : List ℕ) → Contains (insert_key ke
 insert_new [] k = contains_here k []
 insert_new (y ∷ ys) k = by (key_order k y) refl (insert_new ys k)
   where
-    by : (o : Ordering) → key_order k y ≡ o → Contains (insert_key key_order ys k) k → Contains (match_ordering o (k ∷ y ∷ ys) (y ∷ ys) (y ∷ insert_key key_order ys k)) k
+    by : (o : Ordering) → key_order k y ≡ o → Contains (insert_key key_order ys k) k
+        → Contains (match_ordering o (k ∷ y ∷ ys) (y ∷ ys) (y ∷ insert_key key_order ys k)) k
     by Less e rec = contains_here k (y ∷ ys)
     by Equal e rec = subst (λ (z : List ℕ). Contains (y ∷ ys) z) (sym (key_equal k y e)) (contains_here y ys)
     by Greater e rec = contains_there y (insert_key key_order ys k) k rec
@@ -112,11 +119,13 @@ insert_only (y ∷ ys) k x c = by (key_order k y) (insert_only ys k x) c
     at_new (inl e) = inr e
     at_new (inr h) = inl h
 
-    at_old : (Contains (insert_key key_order ys k) x → Contains ys x ⊎ (k ≡ x)) → ((y ≡ x) ⊎ Contains (insert_key key_order ys k) x) → Contains (y ∷ ys) x ⊎ (k ≡ x)
+    at_old : (Contains (insert_key key_order ys k) x → Contains ys x ⊎ (k ≡ x)) → ((y ≡ x) ⊎ Contains (insert_key key_order ys k) x)
+        → Contains (y ∷ ys) x ⊎ (k ≡ x)
     at_old rec (inl e) = inl (subst (λ (z : List ℕ). Contains (y ∷ ys) z) e (contains_here y ys))
     at_old rec (inr h) = deeper (rec h)
 
-    by : (o : Ordering) → (Contains (insert_key key_order ys k) x → Contains ys x ⊎ (k ≡ x)) → Contains (match_ordering o (k ∷ y ∷ ys) (y ∷ ys) (y ∷ insert_key key_order ys k)) x → Contains (y ∷ ys) x ⊎ (k ≡ x)
+    by : (o : Ordering) → (Contains (insert_key key_order ys k) x → Contains ys x ⊎ (k ≡ x))
+        → Contains (match_ordering o (k ∷ y ∷ ys) (y ∷ ys) (y ∷ insert_key key_order ys k)) x → Contains (y ∷ ys) x ⊎ (k ≡ x)
     by Less rec c = at_new (contains_cons k (y ∷ ys) x c)
     by Equal rec c = inl c
     by Greater rec c = at_old rec (contains_cons y (insert_key key_order ys k) x c)
@@ -125,7 +134,8 @@ pub inserts : (old new : List (List ℕ)) (k : List ℕ) → new ≡ insert_key 
 inserts old new k e = subst (IsWithKey old k) (sym e) (record { kept = insert_has old k; added = insert_new old k; only = insert_only old k })
 
 -- ---- the generators of one cone
-pub key_padded : (c : ShownCone) (k n m : ℕ) (x : List ℕ) → IsWithinLimits c → n ≡ c.size → m ≡ n → k < c.size → length x ≡ 8 → ((i : ℕ) → i < m → slice_index_or x i 0 ≡ shown_coordinate c k i)
+pub key_padded : (c : ShownCone) (k n m : ℕ) (x : List ℕ) → IsWithinLimits c → n ≡ c.size → m ≡ n → k < c.size → length x ≡ 8
+    → ((i : ℕ) → i < m → slice_index_or x i 0 ≡ shown_coordinate c k i)
     → ((i : ℕ) → m ≤ i → slice_index_or x i 0 ≡ 0) → IsKeyOf c k x
 key_padded c k n m x w e f lk size same rest = record {
   size = size;
@@ -137,7 +147,14 @@ key_padded c k n m x w e f lk size same rest = record {
 below_or_last : (k m : ℕ) → k < m + 1 → (k < m) ⊎ (m ≡ k)
 below_or_last k m l = grind arith
 
-pub one_added : (c : ShownCone) (m : ℕ) (z : ℤ) (old keys new : List (List ℕ)) (x : List ℕ) → AddsAttaining c m z old keys → m < c.size → shown_gram c m m ≡ z → IsKeyOf c m x → IsWithKey keys x new
+wider : (c : ShownCone) (m : ℕ) (z : ℤ) (old : List (List ℕ)) (y : List ℕ)
+    → (Contains old y ⊎ ((k : ℕ) × (k < m) × (shown_gram c k k ≡ z) × IsKeyOf c k y))
+    → Contains old y ⊎ ((k : ℕ) × (k < m + 1) × (shown_gram c k k ≡ z) × IsKeyOf c k y)
+wider c m z old y (inl o) = inl o
+wider c m z old y (inr (k, lk, ek, ky)) = inr (k, omega arith, ek, ky)
+
+pub one_added : (c : ShownCone) (m : ℕ) (z : ℤ) (old keys new : List (List ℕ)) (x : List ℕ) → AddsAttaining c m z old keys → m < c.size → shown_gram c m m ≡ z
+    → IsKeyOf c m x → IsWithKey keys x new
     → AddsAttaining c (m + 1) z old new
 one_added c m z old keys new x h l e key w = record {
   kept = λ y cy. w.kept y (h.kept y cy);
@@ -149,24 +166,17 @@ one_added c m z old keys new x h l e key w = record {
     at k ek (inl lt) = let r = h.added k lt ek in (r.0, w.kept r.0 r.1, r.2)
     at k ek (inr s) = (x, w.added, subst (λ (i : ℕ). IsKeyOf c i x) s key)
 
-    wider : (y : List ℕ) → (Contains old y ⊎ ((k : ℕ) × (k < m) × (shown_gram c k k ≡ z) × IsKeyOf c k y)) → Contains old y ⊎ ((k : ℕ) × (k < m + 1) × (shown_gram c k k ≡ z) × IsKeyOf c k y)
-    wider y (inl o) = inl o
-    wider y (inr (k, lk, ek, ky)) = inr (k, omega arith, ek, ky)
-
     of : (y : List ℕ) → (Contains keys y ⊎ (x ≡ y)) → Contains old y ⊎ ((k : ℕ) × (k < m + 1) × (shown_gram c k k ≡ z) × IsKeyOf c k y)
-    of y (inl cy) = wider y (h.only y cy)
+    of y (inl cy) = wider c m z old y (h.only y cy)
     of y (inr s) = inr (m, omega arith, e, subst (IsKeyOf c m) s key)
 
-pub none_more : (c : ShownCone) (m : ℕ) (z : ℤ) (old keys : List (List ℕ)) → AddsAttaining c m z old keys → shown_gram c m m ≢ z → AddsAttaining c (m + 1) z old keys
-none_more c m z old keys h ne = record { kept = h.kept; added = λ k lk ek. at k ek (below_or_last k m lk); only = λ y cy. wider y (h.only y cy) }
+pub none_more : (c : ShownCone) (m : ℕ) (z : ℤ) (old keys : List (List ℕ)) → AddsAttaining c m z old keys → shown_gram c m m ≢ z
+    → AddsAttaining c (m + 1) z old keys
+none_more c m z old keys h ne = record { kept = h.kept; added = λ k lk ek. at k ek (below_or_last k m lk); only = λ y cy. wider c m z old y (h.only y cy) }
   where
     at : (k : ℕ) → shown_gram c k k ≡ z → ((k < m) ⊎ (m ≡ k)) → (y : List ℕ) × Contains keys y × IsKeyOf c k y
     at k ek (inl lt) = h.added k lt ek
     at k ek (inr s) = absurd (ne (subst (λ (i : ℕ). shown_gram c i i ≡ z) (sym s) ek))
-
-    wider : (y : List ℕ) → (Contains old y ⊎ ((k : ℕ) × (k < m) × (shown_gram c k k ≡ z) × IsKeyOf c k y)) → Contains old y ⊎ ((k : ℕ) × (k < m + 1) × (shown_gram c k k ≡ z) × IsKeyOf c k y)
-    wider y (inl o) = inl o
-    wider y (inr (k, lk, ek, ky)) = inr (k, omega arith, ek, ky)
 
 -- ---- the generators of a list of judgements
 padded_same : (n : ℕ) (x : List ℕ) (v w : ℕ → ℤ) → ((p : ℕ) → p < n → v p ≡ w p) → IsPadded n x v → IsPadded n x w
@@ -180,7 +190,9 @@ module _ (n : ℕ) (q : Matrix) (judged : List Judged) (j : Judged) (z : ℤ) (k
   }
     where
       to_path : (k : ℕ) (x : List ℕ) → k < n → IsKeyOf c k x → IsPadded n x (cone_at n q j.path k)
-      to_path k x l p = padded_same n x (shown_generators c k) (cone_at n q j.path k) (λ i li. at.cone.generators k i l li) (subst (λ (m : ℕ). IsPadded m x (shown_generators c k)) at.cone.size p)
+      to_path k x l p =
+          padded_same n x (shown_generators c k) (cone_at n q j.path k) (λ i li. at.cone.generators k i l li)
+          (subst (λ (m : ℕ). IsPadded m x (shown_generators c k)) at.cone.size p)
 
       of : (x : List ℕ) → (Contains keys x ⊎ ((k : ℕ) × (k < n) × (shown_gram c k k ≡ z) × IsKeyOf c k x))
           → (i : Judged) × (k : ℕ) × Contains (judged ++ j ∷ []) i × (k < n) × IsPadded n x (cone_at n q i.path k) × (value n q (cone_at n q i.path) k ≡ z)
@@ -190,9 +202,12 @@ module _ (n : ℕ) (q : Matrix) (judged : List Judged) (j : Judged) (z : ℤ) (k
       here : (k : ℕ) → k < n → value n q (cone_at n q j.path) k ≡ z → (x : List ℕ) × Contains new x × IsPadded n x (cone_at n q j.path k)
       here k l val = let r = a.added k l (at.cone.gram_is k k l l ∙ val) in (r.0, r.1, to_path k r.0 l r.2)
 
-      there : (i : Judged) (k : ℕ) → i.least ≡ z → k < n → value n q (cone_at n q i.path) k ≡ z → (Contains judged i ⊎ (j ≡ i)) → (x : List ℕ) × Contains new x × IsPadded n x (cone_at n q i.path k)
+      there : (i : Judged) (k : ℕ) → i.least ≡ z → k < n → value n q (cone_at n q i.path) k ≡ z → (Contains judged i ⊎ (j ≡ i))
+          → (x : List ℕ) × Contains new x × IsPadded n x (cone_at n q i.path k)
       there i k e l val (inl ci) = let r = h.all i k ci e l val in (r.0, a.kept r.0 r.1, r.2)
-      there i k e l val (inr s) = subst (λ (w : Judged). (x : List ℕ) × Contains new x × IsPadded n x (cone_at n q w.path k)) s (here k l (subst (λ (w : Judged). value n q (cone_at n q w.path) k ≡ z) (sym s) val))
+      there i k e l val (inr s) =
+          subst (λ (w : Judged). (x : List ℕ) × Contains new x × IsPadded n x (cone_at n q w.path k)) s
+          (here k l (subst (λ (w : Judged). value n q (cone_at n q w.path) k ≡ z) (sym s) val))
 
   pub has_same : j.least ≢ z → HasGenerators n q (judged ++ j ∷ []) z keys
   has_same ne = record {
@@ -200,7 +215,8 @@ module _ (n : ℕ) (q : Matrix) (judged : List Judged) (j : Judged) (z : ℤ) (k
     all = λ i k ci e l val. by i k e l val (Contains-push_cases judged j i ci);
   }
     where
-      by : (i : Judged) (k : ℕ) → i.least ≡ z → k < n → value n q (cone_at n q i.path) k ≡ z → (Contains judged i ⊎ (j ≡ i)) → (x : List ℕ) × Contains keys x × IsPadded n x (cone_at n q i.path k)
+      by : (i : Judged) (k : ℕ) → i.least ≡ z → k < n → value n q (cone_at n q i.path) k ≡ z → (Contains judged i ⊎ (j ≡ i))
+          → (x : List ℕ) × Contains keys x × IsPadded n x (cone_at n q i.path k)
       by i k e l val (inl ci) = h.all i k ci e l val
       by i k e l val (inr s) = absurd (ne (subst (λ (w : Judged). w.least ≡ z) (sym s) e))
 
@@ -228,7 +244,8 @@ pub record IsListing (n : ℕ) (keys list rest : List (List ℕ)) : Type 0 where
   pub are_vectors : IsVectorList list
   pub below : (k : ℕ) → k + 1 ≡ length front → All (λ y. key_order (slice_index_or front k []) y ≡ Less) rest
 
-module _ (n : ℕ) (keys list rest rest' : List (List ℕ)) (x : List ℕ) (few : n ≤ 8) (are : AreKeys n keys) (h : IsListing n keys list rest) (e : rest ≡ x ∷ rest') where
+module _ (n : ℕ) (keys list rest rest' : List (List ℕ)) (x : List ℕ) (few : n ≤ 8) (are : AreKeys n keys) (h : IsListing n keys list rest)
+    (e : rest ≡ x ∷ rest') where
   split_here : keys ≡ h.front ++ x ∷ rest'
   split_here = h.split ∙ ap (λ (w : List (List ℕ)). h.front ++ w) e
 
@@ -244,29 +261,31 @@ module _ (n : ℕ) (keys list rest rest' : List (List ℕ)) (x : List ℕ) (few 
   is_key : (k : ℕ) → k < length keys → IsKey n (slice_index_or keys k [])
   is_key k l = are (slice_index_or keys k []) (k, l, any_default keys k _ [] l)
 
-  pub key_of_x : IsKey n x
+  key_of_x : IsKey n x
   key_of_x = subst (IsKey n) at_x (is_key (length h.front) (let l : length keys ≡ length h.front + suc (length rest') = long in omega arith))
 
   key_at : (k : ℕ) → k < length h.front → IsKey n (slice_index_or h.front k [])
   key_at k l = subst (IsKey n) (at_front k l) (is_key k (let m : length keys ≡ length h.front + suc (length rest') = long in omega arith))
 
-  pub follows : CanFollow list (take n x)
+  follows : CanFollow list (take n x)
   follows = subst (λ (w : List (List ℕ)). CanFollow w (take n x)) (sym h.list_is) (record { one_length = lengths; greater = before })
     where
       lengths : (k : ℕ) → k < length (map (take n) h.front) → length (slice_index_or (map (take n) h.front) k []) ≡ length (take n x)
       lengths k l =
           let lk : k < length h.front = rw (← length-map h.front (take n)) l in
-          ap length (get_or-map (take n) h.front k [] [] lk) ∙ vector_length n (slice_index_or h.front k []) few (key_at k lk) ∙ sym (vector_length n x few key_of_x)
+          ap length (get_or-map (take n) h.front k [] [] lk) ∙ vector_length n (slice_index_or h.front k []) few (key_at k lk)
+          ∙ sym (vector_length n x few key_of_x)
 
       before : (k : ℕ) → k + 1 ≡ length (map (take n) h.front) → ComesBefore (slice_index_or (map (take n) h.front) k []) (take n x)
       before k l =
           let m : k + 1 ≡ length h.front = l ∙ length-map h.front (take n) in
           let lk : k < length h.front = omega arith in
-          let less : key_order (slice_index_or h.front k []) x ≡ Less = (subst (All (λ y. key_order (slice_index_or h.front k []) y ≡ Less)) e (h.below k m)) 0 x (omega arith) in
+          let less : key_order (slice_index_or h.front k []) x ≡ Less =
+          (subst (All (λ y. key_order (slice_index_or h.front k []) y ≡ Less)) e (h.below k m)) 0 x (omega arith) in
           subst (λ (w : List ℕ). ComesBefore w (take n x)) (sym (get_or-map (take n) h.front k [] [] lk))
           (less_comes_before n (slice_index_or h.front k []) x ((key_at k lk).size ∙ sym key_of_x.size) (key_at k lk).rest key_of_x.rest less)
 
-  pub listing_more : All (λ y. key_order x y ≡ Less) rest' → IsListing n keys (list ++ take n x ∷ []) rest'
+  listing_more : All (λ y. key_order x y ≡ Less) rest' → IsListing n keys (list ++ take n x ∷ []) rest'
   listing_more above = record {
     front = h.front ++ x ∷ [];
     split = split_here ∙ sym (append_assoc h.front (x ∷ []) rest');
@@ -278,11 +297,30 @@ module _ (n : ℕ) (keys list rest rest' : List (List ℕ)) (x : List ℕ) (few 
       last : (k : ℕ) → k + 1 ≡ length h.front + 1 → slice_index_or (h.front ++ x ∷ []) k [] ≡ x
       last k l = let m : k ≡ length h.front = omega arith in rw m (read_here h.front [] x [])
 
+-- a key that is taken from the set of those that are left
+pub record IsNextKey (n : ℕ) (keys list rest' : List (List ℕ)) (x : List ℕ) : Type 0 where
+  pub key : IsKey n x
+  pub follows : CanFollow list (take n x)
+  pub more : All (λ y. key_order x y ≡ Less) rest' → IsListing n keys (list ++ take n x ∷ []) rest'
+
+pub next_key : (n : ℕ) (keys list rest rest' : List (List ℕ)) (x : List ℕ) → n ≤ 8 → AreKeys n keys → IsListing n keys list rest → rest ≡ x ∷ rest'
+    → IsNextKey n keys list rest' x
+next_key n keys list rest rest' x few are h e = record {
+  key = key_of_x n keys list rest rest' x few are h e;
+  follows = follows n keys list rest rest' x few are h e;
+  more = listing_more n keys list rest rest' x few are h e;
+}
+
 pub listing_end : (n : ℕ) (keys list rest : List (List ℕ)) → IsListing n keys list rest → rest ≡ [] → IsVectorsOf n keys list
-listing_end n keys list rest h e = record { same = h.list_is ∙ ap (map (take n)) (sym (h.split ∙ ap (λ (w : List (List ℕ)). h.front ++ w) e ∙ append-nil h.front)); increasing = h.are_vectors.increasing }
+listing_end n keys list rest h e =
+    record {
+      same = h.list_is ∙ ap (map (take n)) (sym (h.split ∙ ap (λ (w : List (List ℕ)). h.front ++ w) e ∙ append-nil h.front));
+      increasing = h.are_vectors.increasing;
+    }
 
 -- ---- the list of the generators
-module _ (n : ℕ) (q : Matrix) (judged : List Judged) (z : ℤ) (keys vectors : List (List ℕ)) (few : n ≤ 8) (h : HasGenerators n q judged z keys) (v : IsVectorsOf n keys vectors) where
+module _ (n : ℕ) (q : Matrix) (judged : List Judged) (z : ℤ) (keys vectors : List (List ℕ)) (few : n ≤ 8) (h : HasGenerators n q judged z keys)
+    (v : IsVectorsOf n keys vectors) where
   as_vector : (x : List ℕ) (w : ℕ → ℤ) → IsPadded n x w → IsListOf n (take n x) w
   as_vector x w p = record {
     size = length-take-le n x (rw p.size few);
@@ -292,13 +330,15 @@ module _ (n : ℕ) (q : Matrix) (judged : List Judged) (z : ℤ) (keys vectors :
   pub lists_generators : ListsGenerators n q judged z vectors
   lists_generators = record { each = each; all = all; increasing = v.increasing }
     where
-      each : (x : List ℕ) → Contains vectors x → (j : Judged) × (k : ℕ) × Contains judged j × (k < n) × IsListOf n x (cone_at n q j.path k) × (value n q (cone_at n q j.path) k ≡ z)
+      each : (x : List ℕ) → Contains vectors x → (j : Judged) × (k : ℕ) × Contains judged j × (k < n) × IsListOf n x (cone_at n q j.path k)
+          × (value n q (cone_at n q j.path) k ≡ z)
       each x c =
           let r = Contains-map_back (take n) keys x (subst (λ (w : List (List ℕ)). Contains w x) v.same c) in
           let g = h.each r.0 r.1 in
           (g.0, g.1, g.2, g.3, subst (λ (w : List ℕ). IsListOf n w (cone_at n q g.0.path g.1)) r.2 (as_vector r.0 (cone_at n q g.0.path g.1) g.4), g.5)
 
-      all : (j : Judged) (k : ℕ) (x : List ℕ) → Contains judged j → j.least ≡ z → k < n → IsListOf n x (cone_at n q j.path k) → value n q (cone_at n q j.path) k ≡ z → Contains vectors x
+      all : (j : Judged) (k : ℕ) (x : List ℕ) → Contains judged j → j.least ≡ z → k < n → IsListOf n x (cone_at n q j.path k)
+          → value n q (cone_at n q j.path) k ≡ z → Contains vectors x
       all j k x c e l vec val =
           let r = h.all j k c e l val in
           let t : IsListOf n (take n r.0) (cone_at n q j.path k) = as_vector r.0 (cone_at n q j.path k) r.2 in

@@ -32,7 +32,8 @@ least_upto_attained (suc n) f = by (either (least_upto n f) (f (suc n))) (least_
     either : (x y : ℤ) → (int_min x y ≡ x) ⊎ (int_min x y ≡ y)
     either x y = grind (arith, ints)
 
-    by : ((int_min (least_upto n f) (f (suc n)) ≡ least_upto n f) ⊎ (int_min (least_upto n f) (f (suc n)) ≡ f (suc n))) → ((k : ℕ) × (k ≤ n) × (f k ≡ least_upto n f))
+    by : ((int_min (least_upto n f) (f (suc n)) ≡ least_upto n f) ⊎ (int_min (least_upto n f) (f (suc n)) ≡ f (suc n)))
+        → ((k : ℕ) × (k ≤ n) × (f k ≡ least_upto n f))
         → (k : ℕ) × (k ≤ suc n) × (f k ≡ int_min (least_upto n f) (f (suc n)))
     by (inl e) (k, l, h) = (k, omega arith, h ∙ sym e)
     by (inr e) r = (suc n, omega arith, sym e)
@@ -57,7 +58,8 @@ least_diagonal_attained n q some = let r = least_upto_attained (n - 1) (λ k. q 
 pub root_value : (n : ℕ) (q : Matrix) (k : ℕ) → k < n → value n q unit_vectors k ≡ q k k
 unfolding bilinear
 root_value n q k l =
-    sum_to_one n _ k l (λ i li ne. sum_to_none n _ (λ j lj. ap (λ (w : ℤ). q i j *ℤ (w *ℤ e j)) (off i ne) ∙ ap (λ (w : ℤ). q i j *ℤ w) (zero_mul_ℤ (e j)) ∙ mul_zero_ℤ (q i j)))
+    sum_to_one n _ k l (λ i li ne. sum_to_none n _ (λ j lj. ap (λ (w : ℤ). q i j *ℤ (w *ℤ e j)) (off i ne) ∙ ap (λ (w : ℤ). q i j *ℤ w) (zero_mul_ℤ (e j))
+    ∙ mul_zero_ℤ (q i j)))
     ∙ sum_to_one n _ k l (λ j lj ne. ap (λ (w : ℤ). q k j *ℤ (e k *ℤ w)) (off j ne) ∙ ap (λ (w : ℤ). q k j *ℤ w) (mul_zero_ℤ (e k)) ∙ mul_zero_ℤ (q k j))
     ∙ ap (λ (w : ℤ). q k k *ℤ (w *ℤ w)) (replaced_here (λ i. pos 0) k (pos 1) k refl)
     ∙ times_one (q k k)

@@ -1,3 +1,4 @@
+pub mod Irrelevant
 pub mod LeastValues
 pub mod PathFates
 pub mod Settle

@@ -1,7 +1,8 @@
 -- What is due, and what stands in the machine, is in the tree.
-use Rattle.std.specs.Prelude.{◌≡◌, ◌≢◌, ℕ, zero, suc, ◌<◌, ◌≤◌, ◌+◌, List, [], ◌∷◌, length}
+use Rattle.std.specs.Prelude.{◌≡◌, ℕ, zero, suc, ◌<◌, ◌≤◌, ◌+◌, List, [], ◌∷◌, length}
 use Rattle.std.proofs.Common.{arith, sym, ◌∙◌, ap, refl, inl, inr, subst}
 use Rattle.std.specs.List.{Contains}
+use Rattle.commutative_ring.proofs.SmallCases.{below_unless_same}
 use Rattle.unimodular_cone.specs.Paths.{Path}
 use Rattle.unimodular_cone.specs.Cones.{Matrix}
 use Rattle.unimodular_cone.specs.declared.Mode.{Mode}
@@ -15,9 +16,6 @@ use Rattle.search_core.proofs.Times.{times_none, times_same, times_hands}
 use Rattle.search_core.proofs.Kept.{times_standing}
 use Rattle.search_core.proofs.Finish.{stands_judged, from_due}
 
-lt_of_ne : (x y : ℕ) → x ≤ y → x ≢ y → x < y
-lt_of_ne x y h ne = omega arith
-
 -- where each judged path is due, each due path is in the tree
 module _ (m : Mode) (n : ℕ) (q : Matrix) (d final : ℕ) (judged : List Judged) (each : (j : Judged) → Contains judged j → IsJudgement m n q d final j)
     (no_other : (j : Judged) → Contains judged j → IsDue judged j.path) where
@@ -28,7 +26,7 @@ module _ (m : Mode) (n : ℕ) (q : Matrix) (d final : ℕ) (judged : List Judged
       let t : IsInTree n q d j.path = due_in_tree_by fuel j.path (omega (arith, ap length e, length_child j.path side)) (no_other j c) in
       let can = split_can m n q d j.path j.fate (judged_fate m n q d final j (each j c)) split in
       let s : length j.path ≤ d = t.short in
-      subst (IsInTree n q d) (sym e) (in_tree_child n q d j.path side t (lt_of_ne (length j.path) d s can.1) can.0)
+      subst (IsInTree n q d) (sym e) (in_tree_child n q d j.path side t (below_unless_same (length j.path) d s can.1) can.0)
 
   pub due_in_tree : (x : Path) → IsDue judged x → IsInTree n q d x
   due_in_tree x h = due_in_tree_by (length x) x (omega arith) h

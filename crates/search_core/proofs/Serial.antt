@@ -37,7 +37,8 @@ same_judged judged = record { judged_paths = λ x. refl; below = λ x. refl; bac
 last_first : (judged : List Judged) (j : Judged) → IsSameJudged (judged ++ j ∷ []) (j ∷ judged)
 last_first judged j = record {
   judged_paths = λ x. omega (arith, times_paths_append x judged (j ∷ []), times_cons x j.path (paths judged));
-  below = λ x. (let e : times x (below_splits (j ∷ [])) ≡ times x (children_of j.path j.fate) = times-append x (children_of j.path j.fate) [] ∙ omega (arith, times_none x) in
+  below = λ x. (let e : times x (below_splits (j ∷ [])) ≡ times x (children_of j.path j.fate) = times-append x (children_of j.path j.fate) []
+      ∙ omega (arith, times_none x) in
       omega (arith, times_below_append x judged (j ∷ []), times-append x (children_of j.path j.fate) (below_splits judged)));
   back = λ k c. back k (contains_cons j judged k c);
   forth = λ k c. forth k (Contains-push_cases judged j k c);
@@ -90,7 +91,9 @@ reordered m n q d stack other word judged again same all kept = record {
 -- one turn: the top is judged under the lesser of the word and its code, and its children are put on the stack
 pub alone_turn : (m : Mode) (n : ℕ) (q : Matrix) (d : ℕ) (path : Path) (stack : List Path) (word : ℕ) (judged : List Judged) (fate : Fate)
     → IsKept m n q d (alone (path ∷ stack) word judged) → IsFate m n q d path (min word (code m n q path)) fate
-    → IsKept m n q d (alone (children_of path fate ++ stack) (min word (code m n q path)) (record { path = path; fate = fate; least = least_value n q (cone_at n q path) } ∷ judged))
+    → IsKept m n q d
+    (alone (children_of path fate ++ stack) (min word (code m n q path)) (record { path = path; fate = fate; least = least_value n q (cone_at n q path) }
+    ∷ judged))
 alone_turn m n q d path stack word judged fate kept is_fate =
     reordered m n q d (stack ++ children_of path fate) (children_of path fate ++ stack) (min word (code m n q path)) (judged ++ j ∷ []) (j ∷ judged)
     (λ x. omega (arith, times-append x stack (children_of path fate), times-append x (children_of path fate) stack)) (last_first judged j)
@@ -99,7 +102,18 @@ alone_turn m n q d path stack word judged fate kept is_fate =
     (take_keeps m n q d (alone (path ∷ stack) word judged) taken 0 path kept
     (record { worker = omega arith; empty = refl; before = []; after = stack; was = refl; waiting = refl; hands = refl; word = refl; judged = refl }))
     (record { worker = omega arith; path = path; taken = refl; word = refl; hands = refl; waiting = refl; judged = refl }))
-    (record { worker = omega arith; path = path; noted = min word (code m n q path); offered = refl; fate = fate; is_fate = is_fate; hands = refl; waiting = refl; word = refl; judged = refl }))
+    (record {
+      worker = omega arith;
+      path = path;
+      noted = min word (code m n q path);
+      offered = refl;
+      fate = fate;
+      is_fate = is_fate;
+      hands = refl;
+      waiting = refl;
+      word = refl;
+      judged = refl;
+    }))
   where
     j : Judged
     j = record { path = path; fate = fate; least = least_value n q (cone_at n q path) }
@@ -125,13 +139,15 @@ stacked path (Wide w at) = []
 
 -- one turn, of the last of the stack
 pub stack_turn : (m : Mode) (n : ℕ) (q : Matrix) (d : ℕ) (front : List Path) (path : Path) (word : ℕ) (judged : List Judged) (j : Judged)
-    → IsKept m n q d (alone (front ++ path ∷ []) word judged) → j.path ≡ path → j.least ≡ least_value n q (cone_at n q path) → IsFate m n q d path (min word (code m n q path)) j.fate
+    → IsKept m n q d (alone (front ++ path ∷ []) word judged) → j.path ≡ path → j.least ≡ least_value n q (cone_at n q path)
+    → IsFate m n q d path (min word (code m n q path)) j.fate
     → IsKept m n q d (alone (front ++ stacked path j.fate) (min word (code m n q path)) (j ∷ judged))
 stack_turn m n q d front path word judged j kept same least fate =
     subst (λ (k : Judged). IsKept m n q d (alone (front ++ stacked path j.fate) (min word (code m n q path)) (k ∷ judged))) (sym j_is)
     (reordered m n q d (children_of path j.fate ++ front) (front ++ stacked path j.fate) (min word (code m n q path)) (here ∷ judged) (here ∷ judged)
     after (same_judged (here ∷ judged))
-    (alone_turn m n q d path front word judged j.fate (reordered m n q d (front ++ path ∷ []) (path ∷ front) word judged judged before (same_judged judged) kept) fate))
+    (alone_turn m n q d path front word judged j.fate
+    (reordered m n q d (front ++ path ∷ []) (path ∷ front) word judged judged before (same_judged judged) kept) fate))
   where
     here : Judged
     here = record { path = path; fate = j.fate; least = least_value n q (cone_at n q path) }
@@ -143,7 +159,8 @@ stack_turn m n q d front path word judged j kept same least fate =
     before x = omega (arith, times-append x front (path ∷ []), times_cons x path front)
 
     sides : (x : Path) (f : Fate) → times x (children_of path f) ≡ times x (stacked path f)
-    sides x (Split i k w) = omega (arith, times_cons x (path ++ false ∷ []) ((path ++ true ∷ []) ∷ []), times_cons x (path ++ true ∷ []) ((path ++ false ∷ []) ∷ []))
+    sides x (Split i k w) =
+        omega (arith, times_cons x (path ++ false ∷ []) ((path ++ true ∷ []) ∷ []), times_cons x (path ++ true ∷ []) ((path ++ false ∷ []) ∷ []))
     sides x (Closed w) = refl
     sides x (Low k) = refl
     sides x (Dropped w) = refl

@@ -1,5 +1,6 @@
 -- What the machine's code does in a step is an event, and what is kept stays kept.
-use Rattle.std.specs.Prelude.{◌≡◌, ◌≢◌, ℕ, zero, suc, ◌<◌, ◌≤◌, ◌+◌, ◌-◌, min, ◌⊎◌, List, [], ◌∷◌, ◌++◌, length, take, drop, replicate, slice_index_or, slice_set}
+use Rattle.std.specs.Prelude.{◌≡◌, ◌≢◌, ℕ, zero, suc, ◌<◌, ◌≤◌, ◌+◌, ◌-◌, min, ◌⊎◌, List, [], ◌∷◌, ◌++◌, length, take, drop, replicate, slice_index_or}
+use Rattle.std.specs.Prelude.{slice_set}
 use Rattle.std.proofs.Common.{arith, sym, ◌∙◌, ap, ap₂, refl, inl, inr, subst, length-append}
 use Rattle.std.proofs.lemmas.List.{take_more}
 use Rattle.std.specs.List.{Contains}
@@ -17,12 +18,23 @@ use Rattle.search_core.specs.declared.event.Event.{Event}
 use Rattle.search_core.specs.declared.event.Event.TheVariants.{Take, Offer, Judge}
 use Rattle.search_core.specs.declared.event.Stepped.{Stepped}
 use Rattle.search_core.specs.declared.event.Stepped.TheVariants.{Applied, Ignored, OutOfMemory}
+use Rattle.search_core.specs.declared.machine.Machine.TheInside.{Inside}
 use Rattle.search_core.specs.Fair.{Fate, Closed, Split, Low, Dropped, AtLimit, Wide, Judged, least_value, code, IsSplit, IsFate, IsFair}
 use Rattle.search_core.specs.Machine.{Hand, Empty, Taken, Offered, State, hand, held, in_hands, children_of, IsTake, IsOffer, IsJudge, IsKept, AreEmpty}
-use Rattle.search_core.specs.Events.{ShownMachine, IsRunning, IsNewMachine, IsSameSearch, IsWorker, HasInHand, IsIgnored, IsEvent, IsStepAnswer, IsEventRun, HasEnded, IsPlaceOf, IsJudgementAt}
+use Rattle.search_core.specs.Events.{ShownMachine, IsRunning, IsNewMachine, IsSameSearch, IsWorker, HasInHand, IsIgnored, IsEvent, IsStepAnswer, IsEventRun}
+use Rattle.search_core.specs.Events.{HasEnded, IsPlaceOf, IsJudgementAt}
 use Rattle.search_core.proofs.Kept.{take_keeps, offer_keeps, judge_keeps}
 use Rattle.search_core.proofs.Finish.{start_is_kept, end_is_fair}
 use Rattle.search_core.proofs.Reaching.{held_in_tree}
+
+-- ---- what a machine's fields show
+abbrev pub shown_of : Inside → ShownMachine
+shown_of i = record {
+  mode = i.mode;
+  matrix = i.matrix;
+  limit = i.limit;
+  state = record { waiting = i.waiting.items; hands = i.hands.items; word = i.word; judged = i.judged.items };
+}
 
 -- ---- the machine with another state
 abbrev pub with_state : ShownMachine → State → ShownMachine
@@ -48,12 +60,14 @@ pub saw : {hands slice : List Hand} {w : ℕ} {h g : Hand} → slice ≡ hands �
 saw {hands} {slice} {w} {h} {g} same is has = subst (λ (x : Hand). HasInHand hands w x) is (subst (λ (xs : List Hand). HasInHand xs w h) same has)
 
 -- the path of a hand that is not empty is in the tree
-pub taken_in_tree : (m : ShownMachine) (w : ℕ) (path : Path) → IsRunning m → HasInHand m.state.hands w (Taken path) → IsInTree m.matrix.size (entry m.matrix) m.limit path
+pub taken_in_tree : (m : ShownMachine) (w : ℕ) (path : Path) → IsRunning m → HasInHand m.state.hands w (Taken path)
+    → IsInTree m.matrix.size (entry m.matrix) m.limit path
 taken_in_tree m w path run has = held_in_tree m.mode m.matrix.size (entry m.matrix) m.limit m.state (w - 1) path run.kept (at_worker has) (ap held has.is)
 
 pub offered_in_tree : (m : ShownMachine) (w : ℕ) (path : Path) (noted : ℕ) → IsRunning m → HasInHand m.state.hands w (Offered path noted)
     → IsInTree m.matrix.size (entry m.matrix) m.limit path
-offered_in_tree m w path noted run has = held_in_tree m.mode m.matrix.size (entry m.matrix) m.limit m.state (w - 1) path run.kept (at_worker has) (ap held has.is)
+offered_in_tree m w path noted run has =
+    held_in_tree m.mode m.matrix.size (entry m.matrix) m.limit m.state (w - 1) path run.kept (at_worker has) (ap held has.is)
 
 -- the noted word is at most the code
 pub noted_below_code : (m : ShownMachine) (w : ℕ) (path : Path) (noted : ℕ) → IsRunning m → HasInHand m.state.hands w (Offered path noted)
@@ -76,7 +90,8 @@ cut_at (y ∷ xs) zero x l e = ap (λ (z : Path). z ∷ xs) (sym e)
 cut_at (y ∷ xs) (suc k) x l e = ap (λ (zs : List Path). y ∷ zs) (cut_at xs k x (omega arith) e)
 
 pub takes : (m : ShownMachine) (w place : ℕ) (path : Path) (t : State) → HasInHand m.state.hands w Empty → IsPlaceOf m.state.waiting path place
-    → t.waiting ≡ take place m.state.waiting ++ drop (suc place) m.state.waiting → t.hands ≡ slice_set m.state.hands (w - 1) (Taken path) → t.word ≡ m.state.word
+    → t.waiting ≡ take place m.state.waiting ++ drop (suc place) m.state.waiting → t.hands ≡ slice_set m.state.hands (w - 1) (Taken path)
+    → t.word ≡ m.state.word
     → t.judged ≡ m.state.judged → IsEvent m (Take w path) t
 takes m w place path t has at waiting hands word judged = (
   has.worker.0,
@@ -125,7 +140,8 @@ judges m w path noted j t has at hands waiting word judged = (
     hands = hands;
     waiting = waiting;
     word = word;
-    judged = judged ∙ ap (λ (i : Judged). m.state.judged ++ i ∷ []) (ap₂ (λ (p : Path) z. record { path = p; fate = j.fate; least = z }) at.path_is at.least_is);
+    judged = judged
+        ∙ ap (λ (i : Judged). m.state.judged ++ i ∷ []) (ap₂ (λ (p : Path) z. record { path = p; fate = j.fate; least = z }) at.path_is at.least_is);
   },
 )
 
@@ -134,10 +150,12 @@ may_judge s w path noted has (inl none) = none has.worker
 may_judge s w path noted has (inr other) = other (path, noted, has.is)
 
 -- a split cone's path is shorter than the limit
-pub split_short : (m : Mode) (n : ℕ) (q : Matrix) (d : ℕ) (path : Path) (word : ℕ) (f : Fate) → d ≤ 200 → IsInTree n q d path → IsFate m n q d path word f → IsSplit f
+pub split_short : (m : Mode) (n : ℕ) (q : Matrix) (d : ℕ) (path : Path) (word : ℕ) (f : Fate) → d ≤ 200 → IsInTree n q d path → IsFate m n q d path word f
+    → IsSplit f
     → length path < 200
 split_short m n q d path word (Closed w) small t fate h = absurd h
-split_short m n q d path word (Split i j w) small t (c, at, (e, u, ne, pair, fits)) h = less (length c.path) (length path) d (ap length at.path_is) t.short ne small
+split_short m n q d path word (Split i j w) small t (c, at, (e, u, ne, pair, fits)) h =
+    less (length c.path) (length path) d (ap length at.path_is) t.short ne small
   where
     less : (a b d : ℕ) → a ≡ b → b ≤ d → a ≢ d → d ≤ 200 → b < 200
     less a b d e le ne small = grind arith
@@ -182,7 +200,8 @@ ended_fair m run (none, empty) = end_is_fair m.mode m.matrix.size (entry m.matri
 pub same_search : (a b c : ShownMachine) → IsSameSearch a b → IsSameSearch b c → IsSameSearch a c
 same_search a b c e f = record { mode = f.mode ∙ e.mode; matrix = f.matrix ∙ e.matrix; limit = f.limit ∙ e.limit }
 
-answer_keeps : (answered : Stepped) (old : ShownMachine) (event : Event) (new : ShownMachine) → IsRunning old → IsStepAnswer answered old event new → IsSameSearch old new
+answer_keeps : (answered : Stepped) (old : ShownMachine) (event : Event) (new : ShownMachine) → IsRunning old → IsStepAnswer answered old event new
+    → IsSameSearch old new
     → IsRunning new
 answer_keeps Applied old event new run (may, e) same = subst IsRunning (sym new_is) (event_keeps old event new.state run e)
   where

@@ -2,6 +2,7 @@
 use Rattle.std.specs.Prelude.{◌≡◌, ◌≢◌, ℕ, zero, suc, ◌<◌, ◌≤◌, ◌+◌, Bool, true, false, cond, ◌⊎◌, List, [], ◌∷◌, ◌++◌, length, slice_index_or, slice_set}
 use Rattle.std.proofs.Common.{arith, sym, ◌∙◌, ap, ap₂, refl, inl, inr, subst, length-append}
 use Rattle.unimodular_cone.specs.Paths.{Path}
+use Rattle.unimodular_cone.proofs.Tree.{root_or_child}
 use Rattle.search_core.specs.Fair.{Fate, Closed, Split, Low, Dropped, AtLimit, Wide, Judged}
 use Rattle.search_core.specs.Machine.{Hand, Empty, held, in_hands, paths, below_splits, due, children_of, same_path, times}
 
@@ -59,7 +60,8 @@ pub times_hands : (p : Path) (hands : List Hand) (k : ℕ) (h : Hand) → k < le
 times_hands p [] k h l = absurd (omega arith)
 times_hands p (g ∷ hands) zero h l = omega (arith, times-append p (held h) (in_hands hands), times-append p (held g) (in_hands hands))
 times_hands p (g ∷ hands) (suc k) h l =
-    let r : times p (in_hands (slice_set hands k h)) + times p (held (slice_index_or hands k Empty)) ≡ times p (in_hands hands) + times p (held h) = times_hands p hands k h (omega arith) in
+    let r : times p (in_hands (slice_set hands k h)) + times p (held (slice_index_or hands k Empty)) ≡ times p (in_hands hands) + times p (held h) =
+    times_hands p hands k h (omega arith) in
     omega (arith, times-append p (held g) (in_hands hands), times-append p (held g) (in_hands (slice_set hands k h)))
 
 -- ---- judgements
@@ -87,14 +89,6 @@ snoc_same (a ∷ p) (b ∷ r) s t e =
     let g : a ≡ b = cc in
     (ap₂ (λ (x : Bool) (w : Path). x ∷ w) g h.0, h.1)
 
-pub snoc_cases : (x : Path) → (x ≡ []) ⊎ ((p : Path) × (side : Bool) × (x ≡ p ++ side ∷ []))
-snoc_cases [] = inl refl
-snoc_cases (a ∷ x) = by (snoc_cases x)
-  where
-    by : ((x ≡ []) ⊎ ((p : Path) × (side : Bool) × (x ≡ p ++ side ∷ []))) → (a ∷ x ≡ []) ⊎ ((p : Path) × (side : Bool) × (a ∷ x ≡ p ++ side ∷ []))
-    by (inl e) = inr ([], a, ap (λ (w : Path). a ∷ w) e)
-    by (inr (p, side, e)) = inr (a ∷ p, side, ap (λ (w : Path). a ∷ w) e)
-
 both_children : Path → List Path
 both_children r = (r ++ false ∷ []) ∷ (r ++ true ∷ []) ∷ []
 
@@ -108,6 +102,13 @@ single_other x y ne = times_other x y [] ne ∙ times_none x
 single_same : (x y : Path) → x ≡ y → times x (y ∷ []) ≡ 1
 single_same x y e = let h : times x (y ∷ []) ≡ 1 + times x [] = times_same x y [] e in omega (arith, times_none x)
 
+times_le_one : (x y : Path) → times x (y ∷ []) ≤ 1
+times_le_one x y = or (path_or_not x y)
+  where
+    or : ((x ≡ y) ⊎ (x ≢ y)) → times x (y ∷ []) ≤ 1
+    or (inl e) = omega (arith, single_same x y e)
+    or (inr ne) = omega (arith, single_other x y ne)
+
 snoc_in_both : (p : Path) (side : Bool) (r : Path) → times (p ++ side ∷ []) (both_children r) ≤ times p (r ∷ [])
 snoc_in_both p side r = by (path_or_not p r)
   where
@@ -115,24 +116,12 @@ snoc_in_both p side r = by (path_or_not p r)
     x = p ++ side ∷ []
 
     at_side : (side : Bool) → times (p ++ side ∷ []) ((r ++ false ∷ []) ∷ []) + times (p ++ side ∷ []) ((r ++ true ∷ []) ∷ []) ≤ 1
-    at_side false = let a : times (p ++ false ∷ []) ((r ++ true ∷ []) ∷ []) ≡ 0 = single_other _ _ (λ e. let h : false ≡ true = (snoc_same p r false true e).1 in cc) in
+    at_side false = let a : times (p ++ false ∷ []) ((r ++ true ∷ []) ∷ []) ≡ 0 =
+        single_other _ _ (λ e. let h : false ≡ true = (snoc_same p r false true e).1 in cc) in
         let b = times_le_one (p ++ false ∷ []) (r ++ false ∷ []) in omega arith
-      where
-        times_le_one : (x y : Path) → times x (y ∷ []) ≤ 1
-        times_le_one x y = or (path_or_not x y)
-          where
-            or : ((x ≡ y) ⊎ (x ≢ y)) → times x (y ∷ []) ≤ 1
-            or (inl e) = omega (arith, single_same x y e)
-            or (inr ne) = omega (arith, single_other x y ne)
-    at_side true = let a : times (p ++ true ∷ []) ((r ++ false ∷ []) ∷ []) ≡ 0 = single_other _ _ (λ e. let h : true ≡ false = (snoc_same p r true false e).1 in cc) in
+    at_side true = let a : times (p ++ true ∷ []) ((r ++ false ∷ []) ∷ []) ≡ 0 =
+        single_other _ _ (λ e. let h : true ≡ false = (snoc_same p r true false e).1 in cc) in
         let b = times_le_one (p ++ true ∷ []) (r ++ true ∷ []) in omega arith
-      where
-        times_le_one : (x y : Path) → times x (y ∷ []) ≤ 1
-        times_le_one x y = or (path_or_not x y)
-          where
-            or : ((x ≡ y) ⊎ (x ≢ y)) → times x (y ∷ []) ≤ 1
-            or (inl e) = omega (arith, single_same x y e)
-            or (inr ne) = omega (arith, single_other x y ne)
 
     by : ((p ≡ r) ⊎ (p ≢ r)) → times (p ++ side ∷ []) (both_children r) ≤ times p (r ∷ [])
     by (inl e) = let a = at_side side in let b : times p (r ∷ []) ≡ 1 = single_same p r e in omega (arith, two_children (p ++ side ∷ []) r)
@@ -142,7 +131,8 @@ snoc_in_both p side r = by (path_or_not p r)
         omega (arith, two_children (p ++ side ∷ []) r)
 
 root_in_both : (r : Path) → times [] (both_children r) ≡ 0
-root_in_both r = let a = single_other [] (r ++ false ∷ []) (λ e. no_snoc r false (sym e)) in let b = single_other [] (r ++ true ∷ []) (λ e. no_snoc r true (sym e)) in omega (arith, two_children [] r)
+root_in_both r = let a = single_other [] (r ++ false ∷ []) (λ e. no_snoc r false (sym e)) in let b =
+    single_other [] (r ++ true ∷ []) (λ e. no_snoc r true (sym e)) in omega (arith, two_children [] r)
 
 children_none : (f : Fate) (r x : Path) → (times x (children_of r f) ≡ 0) ⊎ (children_of r f ≡ both_children r)
 unfolding both_children
@@ -180,7 +170,8 @@ snoc_due p side judged = rw (times_other (p ++ side ∷ []) [] (below_splits jud
 
 pub root_below_splits : (judged : List Judged) → times [] (below_splits judged) ≡ 0
 root_below_splits [] = times_none []
-root_below_splits (j ∷ judged) = let h : times [] (below_splits judged) ≡ 0 = root_below_splits judged in omega (arith, times-append [] (children_of j.path j.fate) (below_splits judged), root_in_children j.path j.fate)
+root_below_splits (j ∷ judged) = let h : times [] (below_splits judged) ≡ 0 = root_below_splits judged in
+    omega (arith, times-append [] (children_of j.path j.fate) (below_splits judged), root_in_children j.path j.fate)
 
 -- no path is due twice, where no path is judged more often than it is due
 pub due_once : (judged : List Judged) → ((x : Path) → times x (paths judged) ≤ times x (due judged)) → (x : Path) → times x (due judged) ≤ 1
@@ -189,10 +180,12 @@ due_once judged h x = go (length x) x (omega arith)
     go : (fuel : ℕ) (x : Path) → length x ≤ fuel → times x (due judged) ≤ 1
     go zero [] l = omega (arith, times_same [] [] (below_splits judged) refl, root_below_splits judged)
     go zero (a ∷ x) l = absurd (omega arith)
-    go (suc fuel) x l = by (snoc_cases x) (go fuel)
+    go (suc fuel) x l = by (root_or_child x) (go fuel)
       where
-        by : ((x ≡ []) ⊎ ((p : Path) × (side : Bool) × (x ≡ p ++ side ∷ []))) → ((y : Path) → length y ≤ fuel → times y (due judged) ≤ 1) → times x (due judged) ≤ 1
-        by (inl e) rec = subst (λ (w : Path). times w (due judged) ≤ 1) (sym e) (omega (arith, times_same [] [] (below_splits judged) refl, root_below_splits judged))
+        by : ((x ≡ []) ⊎ ((p : Path) × (side : Bool) × (x ≡ p ++ side ∷ []))) → ((y : Path) → length y ≤ fuel → times y (due judged) ≤ 1)
+            → times x (due judged) ≤ 1
+        by (inl e) rec =
+            subst (λ (w : Path). times w (due judged) ≤ 1) (sym e) (omega (arith, times_same [] [] (below_splits judged) refl, root_below_splits judged))
         by (inr (p, side, e)) rec = subst (λ (w : Path). times w (due judged) ≤ 1) (sym e)
             (let a : times (p ++ side ∷ []) (due judged) ≤ times p (paths judged) = snoc_due p side judged in
             let b : times p (paths judged) ≤ times p (due judged) = h p in

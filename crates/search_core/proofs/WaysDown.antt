@@ -1,26 +1,19 @@
 -- Ways down from the root to a path of the tree.
-use Rattle.std.specs.Prelude.{◌≡◌, ◌⊎◌, ℕ, ◌<◌, ◌+◌, ℤ, pos, ◌≤ℤ◌, ◌-◌, ◌^◌, FitsSigned, Bool, true, false, not, IsTrue, ◌↔◌, nat_eq, [], ◌∷◌, ◌++◌, length, take}
+use Rattle.std.specs.Prelude.{◌≡◌, ◌⊎◌, ℕ, ◌<◌, ◌+◌, ℤ, pos, ◌≤ℤ◌, ◌-◌, ◌^◌, FitsSigned, Bool, true, false, not, IsTrue, ◌↔◌, nat_eq, length, take}
 use Rattle.std.specs.Int.{w128}
 use Rattle.std.proofs.lemmas.Int.{ints, to_z-of_z}
 use Rattle.std.proofs.Common.{to_z, of_z, arith, sym, ◌∙◌, ap, refl, inl, inr, subst}
-use Rattle.std.proofs.lemmas.List.{take_more, take_all}
-use Rattle.unimodular_cone.specs.declared.ConeFail.{ConeFail}
-use Rattle.unimodular_cone.specs.declared.ConeFail.TheVariants.{Wide, OutOfMemory}
+use Rattle.std.proofs.lemmas.List.{take_all}
+use Rattle.commutative_ring.proofs.SmallCases.{before_or_here}
 use Rattle.unimodular_cone.specs.Paths.{Path, digit_of, digit_at}
-use Rattle.unimodular_cone.specs.Cones.{Matrix, unit_vectors, cone_from, Fits}
+use Rattle.unimodular_cone.specs.Cones.{Matrix}
 use Rattle.unimodular_cone.specs.Tree.{IsClosedAt}
-use Rattle.unimodular_cone.specs.Shown.{ShownCone, IsConeAt, IsNext, IsFirstWideAt, IsWideWhere}
+use Rattle.unimodular_cone.specs.Shown.{ShownCone, IsConeAt, IsNext}
 use Rattle.unimodular_cone.proofs.Orders.{take_is_above, above_is_take}
 use Rattle.unimodular_cone.proofs.Tree.{above_shorter}
 use Rattle.unimodular_cone.proofs.ShownAt.{child_at_path}
-use Rattle.unimodular_cone.proofs.Ways.{digit_back}
+use Rattle.unimodular_cone.proofs.Ways.{take_digit}
 use Rattle.search_core.specs.Scans.{IsUnclosedDown}
-
--- ---- refusals that do not come
-pub root_not_wide : (n : ℕ) (q : Matrix) (fail : ConeFail) → Fits n q unit_vectors → IsWideWhere (IsFirstWideAt n q []) fail → ⊥
-unfolding cone_from
-root_not_wide n q (Wide at) fits w = fits at.entry w.entry.over
-root_not_wide n q OutOfMemory fits w = w
 
 -- ---- the way down
 -- k digits down, and no cone above is closed
@@ -32,21 +25,17 @@ pub record IsDownAt (n : ℕ) (q : Matrix) (b : ℤ) (path : Path) (k : ℕ) (c 
 pub way_more : (n : ℕ) (q : Matrix) (path : Path) (k : ℕ) (c r : ShownCone) → k < length path → IsConeAt n q (take k path) c
     → IsNext c (nat_eq (digit_of (digit_at path k)) 1) r → IsConeAt n q (take (k + 1) path) r
 way_more n q path k c r l at next =
-    subst (λ (p : Path). IsConeAt n q p r) more (child_at_path n q (take k path) c at next.i next.j (nat_eq (digit_of (digit_at path k)) 1) r next.pair next.child)
-  where
-    more : take k path ++ nat_eq (digit_of (digit_at path k)) 1 ∷ [] ≡ take (k + 1) path
-    more = ap (λ (b : Bool). take k path ++ b ∷ []) (digit_back (digit_at path k)) ∙ sym (take_more path k false l)
+    subst (λ (p : Path). IsConeAt n q p r) (take_digit path k l)
+    (child_at_path n q (take k path) c at next.i next.j (nat_eq (digit_of (digit_at path k)) 1) r next.pair next.child)
 
-pub down_more : (n : ℕ) (q : Matrix) (b : ℤ) (path : Path) (k : ℕ) (c r : ShownCone) → k < length path → IsDownAt n q b path k c → (¬ IsClosedAt n q (take k path) b)
+pub down_more : (n : ℕ) (q : Matrix) (b : ℤ) (path : Path) (k : ℕ) (c r : ShownCone) → k < length path → IsDownAt n q b path k c
+    → (¬ IsClosedAt n q (take k path) b)
     → IsNext c (nat_eq (digit_of (digit_at path k)) 1) r → IsDownAt n q b path (k + 1) r
 down_more n q b path k c r l h unclosed next = record {
   at_path = way_more n q path k c r l h.at_path next;
-  unclosed = λ i li. by i (last i li);
+  unclosed = λ i li. by i (before_or_here i k li);
 }
   where
-    last : (i : ℕ) → i < k + 1 → (i < k) ⊎ (i ≡ k)
-    last i l = grind arith
-
     by : (i : ℕ) → ((i < k) ⊎ (i ≡ k)) → ¬ IsClosedAt n q (take i path) b
     by i (inl lt) = h.unclosed i lt
     by i (inr e) = subst (λ (m : ℕ). ¬ IsClosedAt n q (take m path) b) (sym e) unclosed
@@ -54,7 +43,8 @@ down_more n q b path k c r l h unclosed next = record {
 pub down_closed : (n : ℕ) (q : Matrix) (b : ℤ) (path : Path) (k : ℕ) → k < length path → IsClosedAt n q (take k path) b → ¬ IsUnclosedDown n q b path
 down_closed n q b path k l closed u = u.above (take k path) (take_is_above path k l) closed
 
-pub down_open : (n : ℕ) (q : Matrix) (b : ℤ) (path : Path) (k : ℕ) (c : ShownCone) → k ≡ length path → IsDownAt n q b path k c → (¬ IsClosedAt n q (take k path) b) → IsUnclosedDown n q b path
+pub down_open : (n : ℕ) (q : Matrix) (b : ℤ) (path : Path) (k : ℕ) (c : ShownCone) → k ≡ length path → IsDownAt n q b path k c
+    → (¬ IsClosedAt n q (take k path) b) → IsUnclosedDown n q b path
 down_open n q b path k c e h unclosed = record {
   itself = subst (λ (p : Path). ¬ IsClosedAt n q p b) (whole path k e) unclosed;
   above = λ a above. let l : length a < length path = above_shorter a path above in

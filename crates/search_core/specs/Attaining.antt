@@ -34,11 +34,15 @@ pub record IsWithKey (old : List (List ℕ)) (key : List ℕ) (new : List (List 
 pub record AddsAttaining (c : ShownCone) (m : ℕ) (z : ℤ) (old new : List (List ℕ)) : Type 0 where
   pub kept : (x : List ℕ) → Contains old x → Contains new x
   pub added : (k : ℕ) → k < m → shown_gram c k k ≡ z → (x : List ℕ) × Contains new x × IsKeyOf c k x
-  pub only : (x : List ℕ) → Contains new x → Contains old x ⊎ ((k : ℕ) × (k < m) × (shown_gram c k k ≡ z) × IsKeyOf c k x)
+  pub only : (x : List ℕ) → Contains new x
+      → Contains old x ⊎ ((k : ℕ) × (k < m) × (shown_gram c k k ≡ z) × IsKeyOf c k x)
 
 pub record HasGenerators (n : ℕ) (q : Matrix) (judged : List Judged) (z : ℤ) (keys : List (List ℕ)) : Type 0 where
-  pub each : (x : List ℕ) → Contains keys x → (j : Judged) × (k : ℕ) × Contains judged j × (k < n) × IsPadded n x (cone_at n q j.path k) × (value n q (cone_at n q j.path) k ≡ z)
-  pub all : (j : Judged) (k : ℕ) → Contains judged j → j.least ≡ z → k < n → value n q (cone_at n q j.path) k ≡ z → (x : List ℕ) × Contains keys x × IsPadded n x (cone_at n q j.path k)
+  pub each : (x : List ℕ) → Contains keys x
+      → (j : Judged) × (k : ℕ) × Contains judged j × (k < n) × IsPadded n x (cone_at n q j.path k)
+      × (value n q (cone_at n q j.path) k ≡ z)
+  pub all : (j : Judged) (k : ℕ) → Contains judged j → j.least ≡ z → k < n → value n q (cone_at n q j.path) k ≡ z
+      → (x : List ℕ) × Contains keys x × IsPadded n x (cone_at n q j.path k)
 
 pub record IsKey (n : ℕ) (x : List ℕ) : Type 0 where
   pub size : length x ≡ 8
@@ -53,6 +57,9 @@ pub record IsVectorsOf (n : ℕ) (keys vectors : List (List ℕ)) : Type 0 where
   pub increasing : IsIncreasing vectors
 
 pub record ListsGenerators (n : ℕ) (q : Matrix) (judged : List Judged) (z : ℤ) (vectors : List (List ℕ)) : Type 0 where
-  pub each : (x : List ℕ) → Contains vectors x → (j : Judged) × (k : ℕ) × Contains judged j × (k < n) × IsListOf n x (cone_at n q j.path k) × (value n q (cone_at n q j.path) k ≡ z)
-  pub all : (j : Judged) (k : ℕ) (x : List ℕ) → Contains judged j → j.least ≡ z → k < n → IsListOf n x (cone_at n q j.path k) → value n q (cone_at n q j.path) k ≡ z → Contains vectors x
+  pub each : (x : List ℕ) → Contains vectors x
+      → (j : Judged) × (k : ℕ) × Contains judged j × (k < n) × IsListOf n x (cone_at n q j.path k)
+      × (value n q (cone_at n q j.path) k ≡ z)
+  pub all : (j : Judged) (k : ℕ) (x : List ℕ) → Contains judged j → j.least ≡ z → k < n
+      → IsListOf n x (cone_at n q j.path k) → value n q (cone_at n q j.path) k ≡ z → Contains vectors x
   pub increasing : IsIncreasing vectors

@@ -16,7 +16,8 @@ abbrev pub IsEndOf : Mode → ℕ → Matrix → ℕ → List Judged → ℕ →
 IsEndOf m n q d part final (End.Low x z path) = IsSearchAnswer m n q d (SearchAnswer.Low x z path)
 IsEndOf m n q d part final (End.Depth path) = IsSearchAnswer m n q d (SearchAnswer.Depth path)
 IsEndOf m n q d part final (End.Wide at) = IsSearchAnswer m n q d (SearchAnswer.Wide at.path at.entry)
-IsEndOf m n q d part final End.Closed = (256 ≤ final) × ((j : Judged) → Contains part j → ¬ IsOpenEnd n q (bound_under m final) j)
+IsEndOf m n q d part final End.Closed =
+    (256 ≤ final) × ((j : Judged) → Contains part j → ¬ IsOpenEnd n q (bound_under m final) j)
 
 -- the end that a judgement names
 abbrev pub NamesEnd : Judged → End → Type 0

@@ -83,7 +83,8 @@ IsStepAnswer OutOfMemory old event new = ((w : ℕ) × (event ≡ Judge w)) × (
 abbrev pub IsEventRun : ShownMachine → List Event → ShownMachine → Type 0
 IsEventRun start [] end = end ≡ start
 IsEventRun start (event ∷ events) end =
-    (answered : Stepped) × (next : ShownMachine) × IsStepAnswer answered start event next × IsSameSearch start next × IsEventRun next events end
+    (answered : Stepped) × (next : ShownMachine) × IsStepAnswer answered start event next × IsSameSearch start next
+    × IsEventRun next events end
 
 abbrev pub HasEnded : State → Type 0
 HasEnded s = (length s.waiting ≡ 0) × (length (in_hands s.hands) ≡ 0)

@@ -23,7 +23,25 @@ use Rattle.unimodular_cone.specs.Cones.{Matrix, cone_at}
 use Rattle.unimodular_cone.specs.Shown.{ShownCone, IsConeAt}
 use Rattle.unimodular_cone.specs.declared.Mode.{Mode}
 use Rattle.unimodular_cone.specs.declared.Mode.TheVariants.{Least}
-pub use Rattle.search_core.specs.Fates.{Fate, Closed, Split, Low, Dropped, AtLimit, Wide, Judged, word_of, least_upto, least_value, least_diagonal, code_of, code, start_of, start_word, bound_under}
+pub use Rattle.search_core.specs.Fates.{
+  Fate,
+  Closed,
+  Split,
+  Low,
+  Dropped,
+  AtLimit,
+  Wide,
+  Judged,
+  word_of,
+  least_upto,
+  least_value,
+  least_diagonal,
+  code_of,
+  code,
+  start_of,
+  start_word,
+  bound_under,
+}
 use Rattle.search_core.specs.Judging.{IsShownFate}
 
 abbrev pub IsFate : Mode → ℕ → Matrix → ℕ → Path → ℕ → Fate → Type 0
@@ -66,7 +84,8 @@ HasPath judged path = (j : Judged) × Contains judged j × (j.path ≡ path)
 
 -- path is the root, or a child of a Split
 abbrev pub IsDue : List Judged → Path → Type 0
-IsDue judged path = (path ≡ []) ⊎ ((j : Judged) × (side : Bool) × Contains judged j × IsSplit j.fate × (path ≡ j.path ++ side ∷ []))
+IsDue judged path =
+    (path ≡ []) ⊎ ((j : Judged) × (side : Bool) × Contains judged j × IsSplit j.fate × (path ≡ j.path ++ side ∷ []))
 
 -- no path is judged twice
 abbrev pub HasNoPath : List Judged → Path → Type 0
@@ -95,11 +114,13 @@ pub record HasAllRelevant (m : Mode) (final : ℕ) (all part : List Judged) : Ty
   pub within : (j : Judged) → Contains part j → Contains all j
   pub low : (j : Judged) → Contains all j → IsLowFate j.fate → Contains part j
   pub ends : (j : Judged) → Contains all j → IsEndFate j.fate → Contains part j
-  pub attaining : m ≡ Least → 256 ≤ final → (j : Judged) → Contains all j → j.least ≡ bound_under Least final → Contains part j
+  pub attaining : m ≡ Least → 256 ≤ final → (j : Judged) → Contains all j → j.least ≡ bound_under Least final
+      → Contains part j
 
 -- an answer may look at a judgement of this fate and this least value, which was made under this word
 abbrev pub IsRelevantFate : Mode → ℕ → Fate → ℤ → Type 0
-IsRelevantFate m word fate least = IsLowFate fate ⊎ (IsEndFate fate ⊎ ((m ≡ Least) × (256 ≤ word) × (least ≤ℤ bound_under Least word)))
+IsRelevantFate m word fate least =
+    IsLowFate fate ⊎ (IsEndFate fate ⊎ ((m ≡ Least) × (256 ≤ word) × (least ≤ℤ bound_under Least word)))
 
 -- no answer looks at such a judgement, which was made under this word or a greater one
 pub record IsIrrelevantFate (m : Mode) (word : ℕ) (fate : Fate) (least : ℤ) : Type 0 where

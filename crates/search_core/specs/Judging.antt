@@ -40,8 +40,10 @@ pub record IsUndecidedShown (m : Mode) (c : ShownCone) (word : ℕ) : Type 0 whe
   pub not_closed : ¬ IsClosedShown m c word
 
 abbrev pub IsShownFate : Mode → ShownCone → ℕ → ℕ → Fate → Type 0
-IsShownFate m c d word (Closed w) = (w ≡ word) × (word < 256 → length c.path ≤ word) × (¬ IsLowShown m c) × IsClosedShown m c word
-IsShownFate m c d word (Low which) = (word < 256 → length c.path ≤ word) × ((k : ℕ) × (which ≡ suc k) × IsFirstLowShown m c k)
+IsShownFate m c d word (Closed w) = (w ≡ word) × (word < 256 → length c.path ≤ word) × (¬ IsLowShown m c)
+    × IsClosedShown m c word
+IsShownFate m c d word (Low which) =
+    (word < 256 → length c.path ≤ word) × ((k : ℕ) × (which ≡ suc k) × IsFirstLowShown m c k)
 IsShownFate m c d word (Dropped w) = (w ≡ word) × (word < 256)
     × ((word < length c.path) ⊎ ((word ≡ length c.path) × (¬ IsLowShown m c) × (¬ IsClosedShown m c word)))
 IsShownFate m c d word (AtLimit w) = (w ≡ word) × IsUndecidedShown m c word × (length c.path ≡ d)

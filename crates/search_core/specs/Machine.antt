@@ -75,7 +75,8 @@ pub record IsJudge (m : Mode) (n : ℕ) (q : Matrix) (d : ℕ) (s : State) (k : 
   pub hands : t.hands ≡ slice_set s.hands k Empty
   pub waiting : t.waiting ≡ s.waiting ++ children_of path fate
   pub word : t.word ≡ s.word
-  pub judged : t.judged ≡ s.judged ++ record { path = path; fate = fate; least = least_value n q (cone_at n q path) } ∷ []
+  pub judged : t.judged ≡ s.judged ++ record { path = path; fate = fate; least = least_value n q (cone_at n q path) }
+      ∷ []
 
 abbrev pub held : Hand → List Path
 held Empty = []
@@ -115,7 +116,9 @@ times p (r ∷ rest) = cond (same_path p r) 1 0 + times p rest
 
 -- judged, or offered in a hand
 abbrev pub IsCoded : State → Path → Type 0
-IsCoded s path = ((j : Judged) × Contains s.judged j × (j.path ≡ path)) ⊎ ((k : ℕ) × (word : ℕ) × (k < length s.hands) × (hand s k ≡ Offered path word))
+IsCoded s path =
+    ((j : Judged) × Contains s.judged j × (j.path ≡ path))
+    ⊎ ((k : ℕ) × (word : ℕ) × (k < length s.hands) × (hand s k ≡ Offered path word))
 
 pub record IsKept (m : Mode) (n : ℕ) (q : Matrix) (d : ℕ) (s : State) : Type 0 where
   -- each due path stands as often as it is due (which is at most once), and no other path stands anywhere
@@ -125,7 +128,8 @@ pub record IsKept (m : Mode) (n : ℕ) (q : Matrix) (d : ℕ) (s : State) : Type
   pub below_codes : (path : Path) → IsCoded s path → s.word ≤ code m n q path
   pub attained : (s.word ≡ start_word m n q) ⊎ ((path : Path) × IsCoded s path × (s.word ≡ code m n q path))
   -- each noted word lies between the word and its cone's code
-  pub noted : (k : ℕ) (path : Path) (word : ℕ) → k < length s.hands → hand s k ≡ Offered path word → (s.word ≤ word) × (word ≤ code m n q path)
+  pub noted : (k : ℕ) (path : Path) (word : ℕ) → k < length s.hands → hand s k ≡ Offered path word
+      → (s.word ≤ word) × (word ≤ code m n q path)
   pub judgements : (j : Judged) → Contains s.judged j → IsJudgement m n q d s.word j
 
 abbrev pub AreEmpty : List Hand → Type 0

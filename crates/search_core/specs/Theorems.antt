@@ -19,22 +19,30 @@ use Rattle.search_core.specs.declared.event.Event.{Event}
 use Rattle.search_core.specs.Events.{ShownMachine, IsNewMachine, IsEventRun, HasEnded}
 
 abbrev pub AtMostOneFate : Type 0
-AtMostOneFate = (m : Mode) (n : ℕ) (q : Matrix) (d : ℕ) (path : Path) (word : ℕ) (f g : Fate) → IsFate m n q d path word f → IsFate m n q d path word g → f ≡ g
+AtMostOneFate = (m : Mode) (n : ℕ) (q : Matrix) (d : ℕ) (path : Path) (word : ℕ) (f g : Fate)
+    → IsFate m n q d path word f → IsFate m n q d path word g → f ≡ g
 
 abbrev pub FateIsOfThePath : Type 0
-FateIsOfThePath = (m : Mode) (n : ℕ) (q : Matrix) (d word : ℕ) (path : Path) (c : ShownCone) (f : Fate) → IsConeAt n q path c → IsShownFate m c d word f → IsFate m n q d path word f
+FateIsOfThePath = (m : Mode) (n : ℕ) (q : Matrix) (d word : ℕ) (path : Path) (c : ShownCone) (f : Fate)
+    → IsConeAt n q path c → IsShownFate m c d word f → IsFate m n q d path word f
 
 abbrev pub CodeIsOfThePath : Type 0
-CodeIsOfThePath = (m : Mode) (n : ℕ) (q : Matrix) (path : Path) (c : ShownCone) → 1 ≤ n → IsConeAt n q path c → shown_code m c ≡ code m n q path
+CodeIsOfThePath = (m : Mode) (n : ℕ) (q : Matrix) (path : Path) (c : ShownCone) → 1 ≤ n → IsConeAt n q path c
+    → shown_code m c ≡ code m n q path
 
 pub record RunsAreFair : Type 0 where
   pub start : (m : Mode) (n : ℕ) (q : Matrix) (d : ℕ) (s : State) → IsStart m n q s → IsKept m n q d s
   pub take : (m : Mode) (n : ℕ) (q : Matrix) (d : ℕ) (s t : State) (k : ℕ) (path : Path)
       → IsKept m n q d s → IsTake s k path t → IsKept m n q d t
-  pub offer : (m : Mode) (n : ℕ) (q : Matrix) (d : ℕ) (s t : State) (k : ℕ) → IsKept m n q d s → IsOffer m n q s k t → IsKept m n q d t
-  pub judge : (m : Mode) (n : ℕ) (q : Matrix) (d : ℕ) (s t : State) (k : ℕ) → IsKept m n q d s → IsJudge m n q d s k t → IsKept m n q d t
-  pub end : (m : Mode) (n : ℕ) (q : Matrix) (d : ℕ) (s : State) → IsKept m n q d s → IsEnd s → IsFair m n q d s.judged s.word
+  pub offer : (m : Mode) (n : ℕ) (q : Matrix) (d : ℕ) (s t : State) (k : ℕ) → IsKept m n q d s → IsOffer m n q s k t
+      → IsKept m n q d t
+  pub judge : (m : Mode) (n : ℕ) (q : Matrix) (d : ℕ) (s t : State) (k : ℕ) → IsKept m n q d s → IsJudge m n q d s k t
+      → IsKept m n q d t
+  pub end : (m : Mode) (n : ℕ) (q : Matrix) (d : ℕ) (s : State) → IsKept m n q d s → IsEnd s
+      → IsFair m n q d s.judged s.word
 
 abbrev pub EveryRunIsFair : Type 0
-EveryRunIsFair = (m : Mode) (q : Symmetric) (d workers : ℕ) (start end : ShownMachine) (events : List Event) → d ≤ 200 → Fits q.size (entry q) unit_vectors
-    → IsNewMachine m q d workers start → IsEventRun start events end → HasEnded end.state → IsFair m q.size (entry q) d end.state.judged end.state.word
+EveryRunIsFair = (m : Mode) (q : Symmetric) (d workers : ℕ) (start end : ShownMachine) (events : List Event) → d ≤ 200
+    → Fits q.size (entry q) unit_vectors
+    → IsNewMachine m q d workers start → IsEventRun start events end → HasEnded end.state
+    → IsFair m q.size (entry q) d end.state.judged end.state.word

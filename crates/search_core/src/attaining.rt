@@ -69,7 +69,8 @@ fn add_attaining<C: ConeRead>(
     minimum: u64,
     found: &mut BTreeSet<Key>,
 ) -> Result<(), AllocError>
-    ensures { OnOk result (AddsAttaining (C.cone c.now) (C.cone c.now).size (pos minimum) found.old.keys found.new.keys) }
+    ensures { OnOk result
+        (AddsAttaining (C.cone c.now) (C.cone c.now).size (pos minimum) found.old.keys found.new.keys) }
 {
     let n = c.n();
     for k in 0..n {
@@ -93,7 +94,8 @@ fn add_attaining_at(
     requires fits { Fits q.now.size (entry q.now) unit_vectors }
     requires way { AreAtPaths q.now.size (entry q.now) way.old.items }
     ensures way { OnOk result (AreAtPaths q.now.size (entry q.now) way.new.items) }
-    ensures added { OnOk result (AddsAttainingAt q.now.size (entry q.now) path.now (pos minimum) found.old.keys found.new.keys) }
+    ensures added { OnOk result
+        (AddsAttainingAt q.now.size (entry q.now) path.now (pos minimum) found.old.keys found.new.keys) }
 {
     go_to(way, q, limit, path)?;
     add_attaining(&way[way.len() - 1], minimum, found)

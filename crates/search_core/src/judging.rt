@@ -11,12 +11,13 @@ ghost use Rattle.search_core.specs.Kept.{IsConeKept};
 use crate::fate::{Fate, Judged};
 use crate::words::{bound_under, code_at, is_low_value};
 use std::alloc::AllocError;
-use unimodular_cone::{ConeRead, Mode, children_fit, closed, least_value, pair};
+use unimodular_cone::{ByReading, ConeRead, ConeTests, Mode, least_value};
 
 /// The first low generator of a cone, counted from 1.
 fn first_low<C: ConeRead>(mode: Mode, c: &C) -> Option<u8>
     ensures fits { IsWithinLimits (C.cone c.now) }
-    ensures low { MatchOption result (¬ IsLowShown mode (C.cone c.now)) (λ which. (k : ℕ) × (which ≡ suc k) × IsFirstLowShown mode (C.cone c.now) k) }
+    ensures low { MatchOption result (¬ IsLowShown mode (C.cone c.now)) (λ which. (k : ℕ) × (which ≡ suc k)
+        × IsFirstLowShown mode (C.cone c.now) k) }
 {
     let n = c.n();
     for k in 0..n {
@@ -29,7 +30,7 @@ fn first_low<C: ConeRead>(mode: Mode, c: &C) -> Option<u8>
 
 /// The fate of a cone that is neither low nor closed nor dropped: it is at the limit, a child does not fit, or it is split.
 #[inline(always)]
-fn undecided_fate<C: ConeRead>(mode: Mode, c: &C, limit: u8, word: u64) -> Fate
+fn undecided_fate<C: ConeTests>(mode: Mode, c: &C, limit: u8, word: u64) -> Fate
     requires fits { IsWithinLimits (C.cone c.now) }
     requires below_code { word ≤ shown_code mode (C.cone c.now) }
     requires limited { limit ≤ 200 }
@@ -40,10 +41,10 @@ fn undecided_fate<C: ConeRead>(mode: Mode, c: &C, limit: u8, word: u64) -> Fate
     if c.path().len() == limit {
         return Fate::AtLimit { word };
     }
-    let Some((i, j)) = pair(c) else {
+    let Some((i, j)) = c.pair() else {
         unreachable!()
     };
-    match children_fit(c, i, j) {
+    match c.children_fit(i, j) {
         Some(at) => Fate::Wide { word, at },
         None => Fate::Split { i, j, word },
     }
@@ -62,7 +63,7 @@ fn which_low<C: ConeRead>(mode: Mode, c: &C) -> u8
 
 /// The fate of a cone whose least value is this.
 #[inline(always)]
-fn fate_of<C: ConeRead>(mode: Mode, c: &C, limit: u8, word: u64, least: i128) -> Fate
+fn fate_of<C: ConeTests>(mode: Mode, c: &C, limit: u8, word: u64, least: i128) -> Fate
     requires below_code { word ≤ shown_code mode (C.cone c.now) }
     requires limited { limit ≤ 200 }
     requires within { length (C.cone c.now).path ≤ limit }
@@ -79,7 +80,7 @@ fn fate_of<C: ConeRead>(mode: Mode, c: &C, limit: u8, word: u64, least: i128) ->
             which: which_low(mode, c),
         };
     }
-    if closed(c, i128::from(bound_under(mode, word))) {
+    if c.closed(i128::from(bound_under(mode, word))) {
         return Fate::Closed { word };
     }
     if word == u64::from(depth) {
@@ -97,7 +98,7 @@ pub fn judge<C: ConeRead>(mode: Mode, c: &C, limit: u8, word: u64) -> Fate
     requires within { length (C.cone c.now).path ≤ limit }
     ensures { IsShownFate mode (C.cone c.now) limit word result }
 {
-    fate_of(mode, c, limit, word, least_value(c))
+    fate_of(mode, &ByReading::of(c), limit, word, least_value(c))
 }
 
 /// The judgement of a cone whose least value is this.
@@ -110,7 +111,7 @@ fn judgement_of<C: ConeRead>(mode: Mode, c: &C, limit: u8, word: u64, least: i12
 {
     Judged {
         path: c.path(),
-        fate: fate_of(mode, c, limit, word, least),
+        fate: fate_of(mode, &ByReading::of(c), limit, word, least),
         least,
     }
 }
@@ -127,13 +128,13 @@ pub fn judgement<C: ConeRead>(mode: Mode, c: &C, limit: u8, word: u64) -> Judged
 
 /// The fate of a cone, with a limit of depth, under a word that first falls to the cone's code if that is less.
 #[inline(always)]
-pub fn lowering_fate<C: ConeRead>(mode: Mode, c: &C, limit: u8, word: &mut u64) -> Fate
+pub fn lowering_fate<C: ConeTests>(mode: Mode, c: &C, limit: u8, word: &mut u64) -> Fate
     requires limited { limit ≤ 200 }
     requires within { length (C.cone c.now).path ≤ limit }
     ensures word { word.new ≡ min word.old (shown_code mode (C.cone c.now)) }
     ensures fate { IsShownFate mode (C.cone c.now) limit word.new result }
 {
-    let least = least_value(c);
+    let least = c.least_value();
     let lower = (*word).min(code_at(mode, c.path().len(), least));
     *word = lower;
     fate_of(mode, c, limit, lower, least)
@@ -159,7 +160,7 @@ fn is_relevant(mode: Mode, fate: &Fate, least: i128, word: u64) -> bool
 ///
 /// The judgement is made only where it is kept.
 #[inline(always)]
-pub fn keep_fate<C: ConeRead>(
+pub fn keep_fate<C: ConeTests>(
     judged: &mut Vec<Judged>,
     mode: Mode,
     c: &C,
@@ -167,10 +168,11 @@ pub fn keep_fate<C: ConeRead>(
     word: u64,
 ) -> Result<(), AllocError>
     ensures kept { OnOk result (IsConeKept mode word (C.cone c.now) fate.now judged.old.items judged.new.items) }
-    ensures few { OnOk result ((¬ IsRelevantFate mode word fate.now (shown_least (C.cone c.now))) → judged.new.items ≡ judged.old.items) }
+    ensures few { OnOk result ((¬ IsRelevantFate mode word fate.now (shown_least (C.cone c.now)))
+        → judged.new.items ≡ judged.old.items) }
     ensures err { OnErr result (judged.new.items ≡ judged.old.items) }
 {
-    let least = least_value(c);
+    let least = c.least_value();
     if is_relevant(mode, fate, least, word) {
         judged.push(Judged {
             path: c.path(),

@@ -116,7 +116,9 @@ impl Machine {
     /// The word. Once nothing waits and nothing is in hand, it is the final word of a fair list, which `judged` gives.
     pub fn word(&self) -> u64
         ensures value { result ≡ self.now.state.word }
-        ensures fair { HasEnded self.now.state → IsFair self.now.mode self.now.matrix.size (entry self.now.matrix) self.now.limit self.now.state.judged result }
+        ensures fair { HasEnded self.now.state
+            → IsFair self.now.mode self.now.matrix.size (entry self.now.matrix) self.now.limit self.now.state.judged
+            result }
     {
         self.word
     }
@@ -124,7 +126,9 @@ impl Machine {
     /// The judgements so far, the oldest first. Once nothing waits and nothing is in hand, they are fair, with the word.
     pub fn judged(&self) -> &[Judged]
         ensures value { result.now ≡ self.now.state.judged }
-        ensures fair { HasEnded self.now.state → IsFair self.now.mode self.now.matrix.size (entry self.now.matrix) self.now.limit result.now self.now.state.word }
+        ensures fair { HasEnded self.now.state
+            → IsFair self.now.mode self.now.matrix.size (entry self.now.matrix) self.now.limit result.now
+            self.now.state.word }
     {
         self.judged.as_slice()
     }

@@ -25,7 +25,7 @@ use Rattle.search_core.proofs.LeastValues.{least_value_attained, code_not_low}
 use Rattle.search_core.proofs.Settle.{split_can, split_not_wide}
 use Rattle.search_core.proofs.Fairness.{append_nil}
 use Rattle.serial_search.specs.Turns.{IsOnTop, AreChildrenOn, AreStacked}
-use Rattle.serial_search.specs.Walks.{IsFinalWord}
+use Rattle.serial_search.specs.Walks.{IsClearWord}
 use Rattle.serial_search.proofs.Stacks.{cones_left, fewer_cones}
 use Rattle.serial_search.proofs.Lefts.{IsInOrder, left_no_later, front_no_later, one_in_order, order_below, top_is_left, split_in_order}
 
@@ -72,7 +72,7 @@ walk_from_root n q d b root at = record {
     by c (inr h) = absurd (nothing c h)
 
 -- a code is at least the final word
-pub word_below_code : (n : ℕ) (q : Matrix) (d word : ℕ) (c : ShownCone) → 0 < n → word < 2 ^ 64 → IsFinalWord n q d word → IsConeAt n q c.path c
+pub word_below_code : (n : ℕ) (q : Matrix) (d word : ℕ) (c : ShownCone) → 0 < n → word < 2 ^ 64 → IsClearWord n q d word → IsConeAt n q c.path c
     → IsInTree n q d c.path → word ≤ shown_code Least c
 word_below_code n q d word c some fits w at t =
     let r = least_value_attained n q (cone_at n q c.path) some in
@@ -88,7 +88,7 @@ word_below_code n q d word c some fits w at t =
     within : (x : ℕ) (z : ℤ) → pos 1 ≤ℤ z → bound_under Least x ≤ℤ z → 257 ≤ x → x ≤ 256 + nat_abs z
     within x z p l h = omega (arith, ints)
 
-module _ (n : ℕ) (q : Matrix) (d word : ℕ) (stack front : List ShownCone) (cone : ShownCone) (f : Fate) (final : IsFinalWord n q d word)
+module _ (n : ℕ) (q : Matrix) (d word : ℕ) (stack front : List ShownCone) (cone : ShownCone) (f : Fate) (final : IsClearWord n q d word)
     (h : IsWalking n q d (bound_under Least word) stack) (popped : IsOnTop cone front stack) (shown : IsShownFate Least cone d word f) where
   here : IsOnTheWay n q d (bound_under Least word) cone
   here = h.cones cone (subst (λ (s : List ShownCone). Contains s cone) (sym popped) (Contains-push front cone))
@@ -282,7 +282,7 @@ module _ (n : ℕ) (q : Matrix) (d word : ℕ) (stack front : List ShownCone) (c
       apart (AtLimit w) e split = absurd split
       apart (Wide w at) e split = absurd split
 
-pub none_left : (n : ℕ) (q : Matrix) (d word : ℕ) (stack : List ShownCone) → stack ≡ [] → IsFinalWord n q d word
+pub none_left : (n : ℕ) (q : Matrix) (d word : ℕ) (stack : List ShownCone) → stack ≡ [] → IsClearWord n q d word
     → IsWalking n q d (bound_under Least word) stack → IsClosedAnswer Least n q d (bound_under Least word)
 none_left n q d word stack e final h = record {
   clear = final.clear;

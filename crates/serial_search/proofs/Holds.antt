@@ -14,7 +14,8 @@ use Rattle.search_core.specs.declared.Least.{Least}
 use Rattle.search_core.specs.declared.Sign.{Sign}
 use Rattle.search_core.specs.Answers.{IsLeastAnswer, IsSignAnswer, LeastHolds, SignHolds}
 
-pub wide_at_root : (m : Mode) (n : ℕ) (q : Matrix) (d : ℕ) (at : WideAt) → BoundFits m n q → IsFirstWideAt n q [] at → IsSearchAnswer m n q d (SearchAnswer.Wide at.path at.entry)
+pub wide_at_root : (m : Mode) (n : ℕ) (q : Matrix) (d : ℕ) (at : WideAt) → BoundFits m n q → IsFirstWideAt n q [] at
+    → IsSearchAnswer m n q d (SearchAnswer.Wide at.path at.entry)
 unfolding cone_from
 wide_at_root m n q d at narrow w = inl (narrow, w.path_is, w.entry)
 

@@ -27,8 +27,8 @@ use Rattle.search_core.proofs.Fairness.{judged_in_tree, none_low, settles_low}
 use Rattle.search_core.proofs.Answers.{some_low, final_bound}
 use Rattle.serial_search.specs.declared.values.LowCone.{LowCone}
 use Rattle.serial_search.specs.Turns.{IsOnTop, AreStacked}
-use Rattle.serial_search.specs.Walks.{ComesFirst, ComesBehind, IsNoted, IsFirstLowCone, IsFinalWord}
-use Rattle.serial_search.proofs.Stacks.{IsSearchedPlainly, plain_starts, plain_turns, plain_falls, plain_ends, cones_left}
+use Rattle.serial_search.specs.Walks.{ComesFirst, ComesBehind, IsLowNoted, IsFirstLowCone, IsClearWord}
+use Rattle.serial_search.proofs.Stacks.{IsSearchedPlainly, plain_starts, plain_step, plain_ends, cones_left}
 
 -- ---- the order by depth
 no_deeper_self : (p : Path) → IsNoDeeper p p
@@ -116,7 +116,7 @@ behind judged j (Some l) h comes = record {
     by k low (inl e) = subst (λ (i : Judged). IsNoDeeper l.path i.path) e comes
     by k low (inr d) = h.first k d low
 
-more_noted : (judged : List Judged) (c : ShownCone) (f : Fate) (z : ℤ) (first new : Option LowCone) → HasFirstLow judged first → IsNoted c f first new
+more_noted : (judged : List Judged) (c : ShownCone) (f : Fate) (z : ℤ) (first new : Option LowCone) → HasFirstLow judged first → IsLowNoted c f first new
     → HasFirstLow (record { path = c.path; fate = f; least = z } ∷ judged) new
 more_noted judged c (Low k) z first new h (inl (comes, e)) =
     subst (HasFirstLow (record { path = c.path; fate = Low k; least = z } ∷ judged)) (sym e)
@@ -161,15 +161,15 @@ module _ (n : ℕ) (q : Matrix) (d : ℕ) (stack front new : List ShownCone) (co
   is_judgement : IsJudgementOf Least cone d (min word (shown_code Least cone)) j
   is_judgement = record { path_is = refl; least_is = refl; fate = fate }
 
-  pub falls_on : IsNoted cone f first next → IsFalling n q d new (min word (shown_code Least cone)) next
+  pub falls_on : IsLowNoted cone f first next → IsFalling n q d new (min word (shown_code Least cone)) next
   falls_on note = record {
     judged = j ∷ h.judged;
-    search = plain_turns Least n q d stack front new cone word h.judged j some h.search popped is_judgement stacks;
+    search = (plain_step Least n q d stack front new cone word h.judged j some h.search popped is_judgement stacks).0;
     low = more_noted h.judged cone f (shown_least cone) first next h.low note;
   }
 
   pub falls_further : cones_left d new < cones_left d stack
-  falls_further = plain_falls Least n q d stack front new cone word h.judged j some h.search popped is_judgement stacks
+  falls_further = (plain_step Least n q d stack front new cone word h.judged j some h.search popped is_judgement stacks).1
 
 -- ---- the end of the first walk
 -- a code is a depth, or over 256
@@ -234,7 +234,7 @@ module _ (n : ℕ) (q : Matrix) (d : ℕ) (judged : List Judged) (final : ℕ) (
           }
 
   -- with no low judgement the word is the final bound's
-  word_end : BoundFits Least n q → Fits n q unit_vectors → HasFirstLow judged None → IsFinalWord n q d final
+  word_end : BoundFits Least n q → Fits n q unit_vectors → HasFirstLow judged None → IsClearWord n q d final
   word_end narrow root_fits none = record {
     clear = record { bound_fits = narrow; root_fits = root_fits; none_low = none_low Least n q d judged final s fair small large };
     past = past fair.final_word.attained;
@@ -265,6 +265,6 @@ falls_to_low n q d stack word low s small some e h =
     low_end n q d h.judged word s (plain_ends Least n q d stack word h.judged e h.search) small some low h.low
 
 pub falls_to_word : (n : ℕ) (q : Matrix) (d : ℕ) (stack : List ShownCone) (word : ℕ) → IsSymmetric n q → d ≤ 200 → 0 < n → BoundFits Least n q
-    → Fits n q unit_vectors → stack ≡ [] → IsFalling n q d stack word None → IsFinalWord n q d word
+    → Fits n q unit_vectors → stack ≡ [] → IsFalling n q d stack word None → IsClearWord n q d word
 falls_to_word n q d stack word s small some narrow root_fits e h =
     word_end n q d h.judged word s (plain_ends Least n q d stack word h.judged e h.search) small some narrow root_fits h.low

@@ -15,7 +15,7 @@ use Rattle.unimodular_cone.proofs.Minimum.{lies_in_closed, nonneg_place, not_low
 use Rattle.unimodular_cone.proofs.AnswerUnique.{answer_unique, final_bound_unique}
 use Rattle.search_core.specs.declared.Least.{Least}
 use Rattle.serial_search.specs.declared.values.ValueOnly.{ValueOnly}
-use Rattle.serial_search.specs.Values.{IsValueAnswer, IsLeastValue, ValueHolds, ValueIsOfLeast}
+use Rattle.serial_search.specs.Values.{IsLeastValueAnswer, IsLeastValue, ValueHolds, ValueIsOfLeast}
 
 -- ---- what they say
 least_value_is : (n : ℕ) (q : Matrix) (d : ℕ) (b : ℤ) → IsSymmetric n q → IsClosedAnswer Mode.Least n q d b → IsLeastValue n q b
@@ -44,7 +44,7 @@ least_value_is n q d b s a = record { positive = positive a.is_bound.attained; l
           },
         )
 
-pub value_holds : (n : ℕ) (q : Matrix) (d : ℕ) (answer : ValueOnly) → IsSymmetric n q → IsValueAnswer n q d answer → ValueHolds n q answer
+pub value_holds : (n : ℕ) (q : Matrix) (d : ℕ) (answer : ValueOnly) → IsSymmetric n q → IsLeastValueAnswer n q d answer → ValueHolds n q answer
 value_holds n q d (ValueOnly.Found m) s a = least_value_is n q d m s a
 value_holds n q d (ValueOnly.Low x z path) s a = low_is Mode.Least n q d x z path a
 value_holds n q d (ValueOnly.Depth path) s a = tt
@@ -86,7 +86,7 @@ IsShownAs SearchAnswer.Copositive answer = ⊥
 IsShownAs (SearchAnswer.Found m vectors) answer = answer ≡ ValueOnly.Found m
 
 shown_as : (n : ℕ) (q : Matrix) (d : ℕ) (answer : ValueOnly) (a : SearchAnswer) → IsSearchAnswer Mode.Least n q d a
-    → IsValueAnswer n q d answer → IsShownAs a answer
+    → IsLeastValueAnswer n q d answer → IsShownAs a answer
 shown_as n q d (ValueOnly.Found m) a h v = let r = only_found n q d m a v h in subst (λ (w : SearchAnswer). IsShownAs w (ValueOnly.Found m)) (sym r.1) refl
 shown_as n q d (ValueOnly.Low x z path) a h v =
     subst (λ (w : SearchAnswer). IsShownAs w (ValueOnly.Low x z path)) (answer_unique Mode.Least n q d (SearchAnswer.Low x z path) a v h) refl

@@ -2,10 +2,10 @@
 use Rattle.std.specs.Prelude.{◌≡◌, ◌≢◌, ℕ, zero, suc, ◌<◌, ◌≤◌, ◌+◌, ◌-◌, ◌*◌, ◌^◌, min, ℤ, ◌<ℤ◌, ◌⊎◌, Bool, true, false, List, [], ◌∷◌, ◌++◌, length, map}
 use Rattle.std.specs.List.{Contains}
 use Rattle.std.proofs.Common.{arith, sym, ◌∙◌, ap, ap₂, refl, inl, inr, subst, length-append}
-use Rattle.std.proofs.lemmas.Int.{ints}
 use Rattle.std.proofs.Math.Nat.{pow-suc, one-le-pow}
 use Rattle.std.proofs.lemmas.List.{map-append, append-nil}
 use Rattle.std.proofs.lemmas.List.Elements.{Contains-push, Contains-append_left, Contains-append_cases, Contains-push_cases}
+use Rattle.commutative_ring.proofs.SmallCases.{below_unless_same, less_self_ℤ}
 use Rattle.unimodular_cone.specs.declared.Mode.{Mode}
 use Rattle.unimodular_cone.specs.declared.Mode.TheVariants.{Least}
 use Rattle.unimodular_cone.specs.Paths.{Path}
@@ -13,6 +13,7 @@ use Rattle.unimodular_cone.specs.Cones.{Matrix}
 use Rattle.unimodular_cone.specs.Shown.{ShownCone, IsChild, IsConeAt}
 use Rattle.unimodular_cone.proofs.ShownAt.{child_at_path}
 use Rattle.exact_forms.proofs.Vectors.{contains_cons, contains_here, contains_there}
+use Rattle.exact_forms.proofs.Lists.{top_in, nothing_in}
 use Rattle.search_core.specs.declared.Fate.{Fate}
 use Rattle.search_core.specs.declared.Fate.TheVariants.{Closed, Split, Low, Dropped, AtLimit, Wide}
 use Rattle.search_core.specs.declared.Judged.{Judged}
@@ -21,6 +22,7 @@ use Rattle.search_core.specs.Judging.{shown_code, IsShownFate, IsJudgementOf}
 use Rattle.search_core.specs.Machine.{IsKept}
 use Rattle.search_core.proofs.ShownFates.{shown_code_at, shown_least_at, fate_at}
 use Rattle.search_core.proofs.Serial.{alone, alone_start, alone_end, stacked, stack_turn}
+use Rattle.search_core.proofs.Irrelevant.{irrelevant_lower}
 use Rattle.serial_search.specs.Turns.{IsOnTop, AreStacked}
 
 abbrev pub path_of : ShownCone → Path
@@ -95,24 +97,22 @@ pub record IsSearching (m : Mode) (n : ℕ) (q : Matrix) (d : ℕ) (stack : List
   pub cones : (c : ShownCone) → Contains stack c → IsConeAt n q c.path c × (length c.path ≤ d)
 
 -- ---- the start
-nothing : {X : Type 0} (x : X) → Contains [] x → ⊥
-nothing x (k, l, e) = omega arith
-
 pub search_starts : (m : Mode) (n : ℕ) (q : Matrix) (d : ℕ) (root : ShownCone) → IsConeAt n q [] root → IsSearching m n q d (root ∷ []) (start_word m n q) []
 search_starts m n q d root at = record {
   all = [];
   state = subst (λ (p : Path). IsKept m n q d (alone (p ∷ []) (start_word m n q) [])) (sym at.path_is) (alone_start m n q d);
-  has = record { within = λ j c. absurd (nothing j c); rest = λ j c. absurd (nothing j c) };
+  has = record { within = λ j c. absurd (nothing_in j c); rest = λ j c. absurd (nothing_in j c) };
   cones = λ c h. by c (contains_cons root [] c h);
 }
   where
     by : (c : ShownCone) → ((root ≡ c) ⊎ Contains [] c) → IsConeAt n q c.path c × (length c.path ≤ d)
     by c (inl e) = subst (λ (r : ShownCone). IsConeAt n q r.path r × (length r.path ≤ d)) e
         ((subst (λ (p : Path). IsConeAt n q p root) (sym at.path_is) at), (let l : length root.path ≡ 0 = ap length at.path_is in omega arith))
-    by c (inr h) = absurd (nothing c h)
+    by c (inr h) = absurd (nothing_in c h)
 
 -- ---- the end
-pub search_ends : (m : Mode) (n : ℕ) (q : Matrix) (d : ℕ) (stack : List ShownCone) (word : ℕ) (kept : List Judged) → stack ≡ [] → IsSearching m n q d stack word kept → IsFairPart m n q d kept word
+pub search_ends : (m : Mode) (n : ℕ) (q : Matrix) (d : ℕ) (stack : List ShownCone) (word : ℕ) (kept : List Judged) → stack ≡ []
+    → IsSearching m n q d stack word kept → IsFairPart m n q d kept word
 search_ends m n q d stack word kept e h = record {
   all = h.all;
   fair = alone_end m n q d word h.all (subst (λ (s : List ShownCone). IsKept m n q d (alone (map path_of s) word h.all)) e h.state);
@@ -134,22 +134,17 @@ search_ends m n q d stack word kept e h = record {
 
     by_least : (j : Judged) → m ≡ Least → 256 ≤ word → j.least ≡ bound_under Least word → (Contains kept j ⊎ IsIrrelevant m word j) → Contains kept j
     by_least j mode large least (inl c) = c
-    by_least j mode large least (inr u) = absurd (let above : bound_under Least word <ℤ j.least = u.above mode large in less_self (bound_under Least word) (subst (λ (z : ℤ). bound_under Least word <ℤ z) least above))
-      where
-        less_self : (z : ℤ) → z <ℤ z → ⊥
-        less_self z l = omega (arith, ints)
+    by_least j mode large least (inr u) =
+        absurd (let above : bound_under Least word <ℤ j.least = u.above mode large in
+        less_self_ℤ (bound_under Least word) (subst (λ (z : ℤ). bound_under Least word <ℤ z) least above))
 
 -- ---- one turn
-untold_lower : (m : Mode) (word lower : ℕ) (j : Judged) → lower ≤ word → IsIrrelevant m word j → IsIrrelevant m lower j
-untold_lower m word lower j le u = record { not_low = u.not_low; no_end = u.no_end; above = λ mode large. by (u.above mode (omega arith)) large }
-  where
-    by : bound_under Least word <ℤ j.least → 256 ≤ lower → bound_under Least lower <ℤ j.least
-    by above large = omega (arith, ints)
-
-module _ (m : Mode) (n : ℕ) (q : Matrix) (d : ℕ) (stack front new : List ShownCone) (cone : ShownCone) (word : ℕ) (kept kept' : List Judged) (j : Judged) (some : 1 ≤ n) (h : IsSearching m n q d stack word kept)
-    (popped : IsOnTop cone front stack) (judged : IsJudgementOf m cone d (min word (shown_code m cone)) j) (stacks : AreStacked cone j.fate front new) (keeps : IsKeptOrIrrelevant m (min word (shown_code m cone)) j kept kept') where
+module _ (m : Mode) (n : ℕ) (q : Matrix) (d : ℕ) (stack front new : List ShownCone) (cone : ShownCone) (word : ℕ) (kept kept' : List Judged) (j : Judged)
+    (some : 1 ≤ n) (h : IsSearching m n q d stack word kept)
+    (popped : IsOnTop cone front stack) (judged : IsJudgementOf m cone d (min word (shown_code m cone)) j) (stacks : AreStacked cone j.fate front new)
+    (keeps : IsKeptOrIrrelevant m (min word (shown_code m cone)) j kept kept') where
   on_top : Contains stack cone
-  on_top = subst (λ (s : List ShownCone). Contains s cone) (sym popped) (Contains-push front cone)
+  on_top = top_in stack front cone popped
 
   at : IsConeAt n q cone.path cone
   at = (h.cones cone on_top).0
@@ -158,7 +153,8 @@ module _ (m : Mode) (n : ℕ) (q : Matrix) (d : ℕ) (stack front new : List Sho
   code_is = shown_code_at m n q cone.path cone some at
 
   fate : IsFate m n q d cone.path (min word (code m n q cone.path)) j.fate
-  fate = subst (λ (w : ℕ). IsFate m n q d cone.path w j.fate) (ap (min word) code_is) (fate_at m n q d (min word (shown_code m cone)) cone.path cone j.fate at judged.fate)
+  fate = subst (λ (w : ℕ). IsFate m n q d cone.path w j.fate) (ap (min word) code_is)
+      (fate_at m n q d (min word (shown_code m cone)) cone.path cone j.fate at judged.fate)
 
   turned : IsKept m n q d (alone (map path_of front ++ stacked cone.path j.fate) (min word (shown_code m cone)) (j ∷ h.all))
   turned = subst (λ (w : ℕ). IsKept m n q d (alone (map path_of front ++ stacked cone.path j.fate) w (j ∷ h.all))) (sym (ap (min word) code_is))
@@ -167,7 +163,8 @@ module _ (m : Mode) (n : ℕ) (q : Matrix) (d : ℕ) (stack front new : List Sho
       judged.path_is (judged.least_is ∙ shown_least_at n q cone.path cone some at) fate)
 
   paths_new : (f : Fate) → AreStacked cone f front new → map path_of front ++ stacked cone.path f ≡ map path_of new
-  paths_new (Split a b w) s = ap₂ (λ (x : Path) (y : Path). map path_of front ++ x ∷ y ∷ []) (sym s.is_second.path_is) (sym s.is_first.path_is) ∙ sym (map-append path_of front (s.second ∷ s.first ∷ [])) ∙ ap (map path_of) (sym s.stack)
+  paths_new (Split a b w) s = ap₂ (λ (x : Path) (y : Path). map path_of front ++ x ∷ y ∷ []) (sym s.is_second.path_is) (sym s.is_first.path_is)
+      ∙ sym (map-append path_of front (s.second ∷ s.first ∷ [])) ∙ ap (map path_of) (sym s.stack)
   paths_new (Closed w) s = append-nil (map path_of front) ∙ ap (map path_of) (sym s)
   paths_new (Low k) s = append-nil (map path_of front) ∙ ap (map path_of) (sym s)
   paths_new (Dropped w) s = append-nil (map path_of front) ∙ ap (map path_of) (sym s)
@@ -177,19 +174,19 @@ module _ (m : Mode) (n : ℕ) (q : Matrix) (d : ℕ) (stack front new : List Sho
   old_cones : (c : ShownCone) → Contains front c → IsConeAt n q c.path c × (length c.path ≤ d)
   old_cones c f = h.cones c (subst (λ (s : List ShownCone). Contains s c) (sym popped) (Contains-append_left front (cone ∷ []) c f))
 
-  new_cones : (f : Fate) → IsShownFate m cone d (min word (shown_code m cone)) f → AreStacked cone f front new → (c : ShownCone) → Contains new c → IsConeAt n q c.path c × (length c.path ≤ d)
-  new_cones (Split a b w) (e, u, ne, pair, fits) s c cn = by (Contains-append_cases front (s.second ∷ s.first ∷ []) c (subst (λ (x : List ShownCone). Contains x c) s.stack cn))
+  new_cones : (f : Fate) → IsShownFate m cone d (min word (shown_code m cone)) f → AreStacked cone f front new → (c : ShownCone) → Contains new c
+      → IsConeAt n q c.path c × (length c.path ≤ d)
+  new_cones (Split a b w) (e, u, ne, pair, fits) s c cn =
+      by (Contains-append_cases front (s.second ∷ s.first ∷ []) c (subst (λ (x : List ShownCone). Contains x c) s.stack cn))
     where
       short : length cone.path < d
-      short = less (length cone.path) d (h.cones cone on_top).1 ne
-        where
-          less : (x y : ℕ) → x ≤ y → x ≢ y → x < y
-          less x y le ne = grind arith
+      short = below_unless_same (length cone.path) d (h.cones cone on_top).1 ne
 
       a_child : (side : Bool) (r : ShownCone) → IsChild cone (a - 1) (b - 1) side r → IsConeAt n q r.path r × (length r.path ≤ d)
       a_child side r is = (
         subst (λ (p : Path). IsConeAt n q p r) (sym is.path_is) (child_at_path n q cone.path cone at (a - 1) (b - 1) side r pair.1 is),
-        (let l : length r.path ≡ length cone.path + 1 = ap length is.path_is ∙ length-append cone.path (side ∷ []) in let sh : length cone.path < d = short in omega arith),
+        (let l : length r.path ≡ length cone.path + 1 = ap length is.path_is ∙ length-append cone.path (side ∷ []) in let sh : length cone.path < d = short in
+            omega arith),
       )
 
       of_two : ((s.second ≡ c) ⊎ Contains (s.first ∷ []) c) → IsConeAt n q c.path c × (length c.path ≤ d)
@@ -198,7 +195,7 @@ module _ (m : Mode) (n : ℕ) (q : Matrix) (d : ℕ) (stack front new : List Sho
         where
           of_one : ((s.first ≡ c) ⊎ Contains [] c) → IsConeAt n q c.path c × (length c.path ≤ d)
           of_one (inl e) = subst (λ (r : ShownCone). IsConeAt n q r.path r × (length r.path ≤ d)) e (a_child false s.first s.is_first)
-          of_one (inr k) = absurd (nothing c k)
+          of_one (inr k) = absurd (nothing_in c k)
 
       by : (Contains front c ⊎ Contains (s.second ∷ s.first ∷ []) c) → IsConeAt n q c.path c × (length c.path ≤ d)
       by (inl k) = old_cones c k
@@ -224,7 +221,7 @@ module _ (m : Mode) (n : ℕ) (q : Matrix) (d : ℕ) (stack front new : List Sho
 
       more : (k : Judged) → (Contains kept k ⊎ IsIrrelevant m word k) → Contains (kept ++ j ∷ []) k ⊎ IsIrrelevant m (min word (shown_code m cone)) k
       more k (inl c) = inl (Contains-append_left kept (j ∷ []) k c)
-      more k (inr u) = inr (untold_lower m word (min word (shown_code m cone)) k lower u)
+      more k (inr u) = inr (irrelevant_lower m word (min word (shown_code m cone)) k lower u)
 
       told : (k : Judged) → ((j ≡ k) ⊎ Contains h.all k) → Contains (kept ++ j ∷ []) k ⊎ IsIrrelevant m (min word (shown_code m cone)) k
       told k (inl s) = inl (subst (Contains (kept ++ j ∷ [])) s (Contains-push kept j))
@@ -236,7 +233,7 @@ module _ (m : Mode) (n : ℕ) (q : Matrix) (d : ℕ) (stack front new : List Sho
     where
       more : (k : Judged) → (Contains kept k ⊎ IsIrrelevant m word k) → Contains kept k ⊎ IsIrrelevant m (min word (shown_code m cone)) k
       more k (inl c) = inl c
-      more k (inr u) = inr (untold_lower m word (min word (shown_code m cone)) k lower u)
+      more k (inr u) = inr (irrelevant_lower m word (min word (shown_code m cone)) k lower u)
 
       told : (k : Judged) → ((j ≡ k) ⊎ Contains h.all k) → Contains kept k ⊎ IsIrrelevant m (min word (shown_code m cone)) k
       told k (inl s) = inr (subst (IsIrrelevant m (min word (shown_code m cone))) s untold)
@@ -262,32 +259,33 @@ module _ (m : Mode) (n : ℕ) (q : Matrix) (d : ℕ) (stack front new : List Sho
       short (AtLimit w) g split = absurd split
       short (Wide w a) g split = absurd split
 
+  pub search_step : IsSearching m n q d new (min word (shown_code m cone)) kept' × (cones_left d new < cones_left d stack)
+  search_step = (search_turns, fewer_left)
+
 -- ---- a search that keeps every judgement, the last one first
 pub record IsSearchedPlainly (m : Mode) (n : ℕ) (q : Matrix) (d : ℕ) (stack : List ShownCone) (word : ℕ) (judged : List Judged) : Type 0 where
   pub kept : List Judged
   pub search : IsSearching m n q d stack word kept
   pub all : search.all ≡ judged
 
-pub plain_starts : (m : Mode) (n : ℕ) (q : Matrix) (d : ℕ) (root : ShownCone) → IsConeAt n q [] root → IsSearchedPlainly m n q d (root ∷ []) (start_word m n q) []
+pub plain_starts : (m : Mode) (n : ℕ) (q : Matrix) (d : ℕ) (root : ShownCone) → IsConeAt n q [] root
+    → IsSearchedPlainly m n q d (root ∷ []) (start_word m n q) []
 unfolding search_starts
 plain_starts m n q d root at = record { kept = []; search = search_starts m n q d root at; all = refl }
 
-pub plain_ends : (m : Mode) (n : ℕ) (q : Matrix) (d : ℕ) (stack : List ShownCone) (word : ℕ) (judged : List Judged) → stack ≡ [] → IsSearchedPlainly m n q d stack word judged → IsFair m n q d judged word
+pub plain_ends : (m : Mode) (n : ℕ) (q : Matrix) (d : ℕ) (stack : List ShownCone) (word : ℕ) (judged : List Judged) → stack ≡ []
+    → IsSearchedPlainly m n q d stack word judged → IsFair m n q d judged word
 unfolding search_ends
 plain_ends m n q d stack word judged e h = subst (λ (all : List Judged). IsFair m n q d all word) h.all (search_ends m n q d stack word h.kept e h.search).fair
 
-module _ (m : Mode) (n : ℕ) (q : Matrix) (d : ℕ) (stack front new : List ShownCone) (cone : ShownCone) (word : ℕ) (judged : List Judged) (j : Judged) (some : 1 ≤ n) (h : IsSearchedPlainly m n q d stack word judged)
+module _ (m : Mode) (n : ℕ) (q : Matrix) (d : ℕ) (stack front new : List ShownCone) (cone : ShownCone) (word : ℕ) (judged : List Judged) (j : Judged)
+    (some : 1 ≤ n) (h : IsSearchedPlainly m n q d stack word judged)
     (popped : IsOnTop cone front stack) (is : IsJudgementOf m cone d (min word (shown_code m cone)) j) (stacks : AreStacked cone j.fate front new) where
-  pub plain_turns : IsSearchedPlainly m n q d new (min word (shown_code m cone)) (j ∷ judged)
-  unfolding search_turns
-  plain_turns = record {
-    kept = h.kept ++ j ∷ [];
-    search = search_turns m n q d stack front new cone word h.kept (h.kept ++ j ∷ []) j some h.search popped is stacks (inl refl);
-    all = ap (λ (all : List Judged). j ∷ all) h.all;
-  }
-
-  pub plain_falls : cones_left d new < cones_left d stack
-  plain_falls = fewer_left m n q d stack front new cone word h.kept (h.kept ++ j ∷ []) j some h.search popped is stacks (inl refl)
+  pub plain_step : IsSearchedPlainly m n q d new (min word (shown_code m cone)) (j ∷ judged) × (cones_left d new < cones_left d stack)
+  unfolding search_step search_turns
+  plain_step =
+      let step = search_step m n q d stack front new cone word h.kept (h.kept ++ j ∷ []) j some h.search popped is stacks (inl refl) in
+      (record { kept = h.kept ++ j ∷ []; search = step.0; all = ap (λ (all : List Judged). j ∷ all) h.all }, step.1)
 
 pub no_items : (stack : List ShownCone) → length stack ≡ 0 → stack ≡ []
 no_items [] e = refl

@@ -1,9 +1,10 @@
 -- The top of an arena's list, and the room above it.
-use Rattle.std.specs.Prelude.{◌≡◌, ◌≢◌, ℕ, suc, ◌<◌, ◌≤◌, ◌+◌, ◌-◌, true, false, List, [], ◌∷◌, ◌++◌, length, take, slice_index_or}
-use Rattle.std.specs.List.{Contains}
+use Rattle.std.specs.Prelude.{◌≡◌, ℕ, suc, ◌<◌, ◌≤◌, ◌+◌, ◌-◌, true, false, List, [], ◌∷◌, ◌++◌, length, take, slice_index_or}
 use Rattle.std.proofs.Common.{arith, sym, ◌∙◌, ap, subst, length-append}
 use Rattle.std.proofs.Math.Seq.{get_or-append_seam, take-append_seam}
+use Rattle.std.specs.List.{Contains}
 use Rattle.std.proofs.lemmas.List.Elements.{Contains-push}
+use Rattle.commutative_ring.proofs.SmallCases.{below_unless_same}
 use Rattle.unimodular_cone.specs.declared.Mode.{Mode}
 use Rattle.unimodular_cone.specs.Shown.{ShownCone, FitsOnBothSides, IsChild}
 use Rattle.cone_arena.specs.Arena.{ShownArena, IsTopReplaced}
@@ -62,11 +63,13 @@ deep_last : (k : ℕ) (a : List ShownCone) (c : ShownCone) → AreDeep k (a ++ c
 deep_last k [] c (le, h) = omega (arith, le)
 deep_last k (x ∷ a) c (le, h) = let l : suc k + length a ≤ length c.path = deep_last (suc k) a c h in omega (arith, l)
 
-deep_two : (k : ℕ) (a : List ShownCone) (c d : ShownCone) → AreDeep k a → k + length a ≤ length c.path → k + length a + 1 ≤ length d.path → AreDeep k (a ++ c ∷ d ∷ [])
+deep_two : (k : ℕ) (a : List ShownCone) (c d : ShownCone) → AreDeep k a → k + length a ≤ length c.path → k + length a + 1 ≤ length d.path
+    → AreDeep k (a ++ c ∷ d ∷ [])
 deep_two k [] c d h lc ld = (omega (arith, lc), (omega (arith, ld), tt))
 deep_two k (x ∷ a) c d (le, h) lc ld = (le, deep_two (suc k) a c d h (omega (arith, lc)) (omega (arith, ld)))
 
-pub deep_turned : (cones rest new : List ShownCone) (c : ShownCone) (f : Fate) → AreDeep 0 cones → IsOnTop c rest cones → AreStacked c f rest new → AreDeep 0 new
+pub deep_turned : (cones rest new : List ShownCone) (c : ShownCone) (f : Fate) → AreDeep 0 cones → IsOnTop c rest cones → AreStacked c f rest new
+    → AreDeep 0 new
 deep_turned cones rest new c f deep top stacks = by f stacks
   where
     below : AreDeep 0 (rest ++ c ∷ [])
@@ -87,9 +90,6 @@ deep_turned cones rest new c f deep top stacks = by f stacks
     by (AtLimit w) s = gone s
     by (Wide w a) s = gone s
 
-less : (x y : ℕ) → x ≤ y → x ≢ y → x < y
-less x y le ne = grind arith
-
 -- a top that is to be split may be: the arena has room for one cone more
 pub may_turn : (m : Mode) (a : ShownArena) (rest : List ShownCone) (c : ShownCone) (d word : ℕ) (f : Fate) → IsOnTop c rest a.cones → c.size ≡ a.size
     → AreDeep 0 a.cones → d ≤ a.depth → length c.path ≤ d → IsShownFate m c d word f → MayTurn a f
@@ -97,7 +97,7 @@ may_turn m a rest c d word f top size deep made within fate = by f fate
   where
     by : (f : Fate) → IsShownFate m c d word f → MayTurn a f
     by (Split i j w) (e, u, ne, pair, fits) =
-        let short : length c.path < d = less (length c.path) d within ne in
+        let short : length c.path < d = below_unless_same (length c.path) d within ne in
         let count : length a.cones ≡ length rest + 1 = ap length top ∙ length-append rest (c ∷ []) in
         let below : 0 + length rest ≤ length c.path = deep_last 0 rest c (subst (AreDeep 0) top deep) in
         let order : i - 1 < j - 1 = pair.1.order in

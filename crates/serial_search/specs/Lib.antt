@@ -1,3 +1,4 @@
 pub mod Turns
+pub mod Found
 pub mod Values
 pub mod Walks

@@ -1,12 +1,13 @@
 -- The search's answer for the least value, the list of vectors left out.
 --
---     IsValueAnswer n q d answer   the search of Q to depth d for the least value answers this, the list of Found left out
+--     IsLeastValueAnswer n q d answer   the search of Q to depth d for the least value answers this, the list of Found left
+--                                  out
 --     IsLeastValue n q m           m is the copositive minimum of Q: of at least 1, the value of a nonzero vector, and no more
 --                                  than that of any
 --     ValueHolds n q answer        Found has the copositive minimum; Low has a nonzero vector of the value, which is low
 --     IsValueOf least answer       the answer is this one of `least`, its list left out; want of memory is free
 --     ValueIsOfLeast               at most one answer without the list goes with what `least` may answer
---     IsEmptied a b                b is a without cones
+--     IsArenaEmptied a b           b is a without cones
 use Rattle.std.specs.Prelude.{ℕ, ℤ, pos, ◌≤ℤ◌, ◌≡◌, List, [], length}
 use Rattle.exact_forms.specs.Forms.{form}
 use Rattle.unimodular_cone.specs.Cones.{Matrix}
@@ -17,12 +18,12 @@ use Rattle.search_core.specs.declared.Least.{Least}
 use Rattle.search_core.specs.Answers.{IsLeastAnswer}
 use Rattle.serial_search.specs.declared.values.ValueOnly.{ValueOnly}
 
-abbrev pub IsValueAnswer : ℕ → Matrix → ℕ → ValueOnly → Type 0
-IsValueAnswer n q d (ValueOnly.Found m) = IsClosedAnswer Mode.Least n q d m
-IsValueAnswer n q d (ValueOnly.Low x z path) = IsSearchAnswer Mode.Least n q d (SearchAnswer.Low x z path)
-IsValueAnswer n q d (ValueOnly.Depth path) = IsSearchAnswer Mode.Least n q d (SearchAnswer.Depth path)
-IsValueAnswer n q d (ValueOnly.Wide at) = IsSearchAnswer Mode.Least n q d (SearchAnswer.Wide at.path at.entry)
-IsValueAnswer n q d (ValueOnly.BoundWide z) = IsSearchAnswer Mode.Least n q d (SearchAnswer.BoundWide z)
+abbrev pub IsLeastValueAnswer : ℕ → Matrix → ℕ → ValueOnly → Type 0
+IsLeastValueAnswer n q d (ValueOnly.Found m) = IsClosedAnswer Mode.Least n q d m
+IsLeastValueAnswer n q d (ValueOnly.Low x z path) = IsSearchAnswer Mode.Least n q d (SearchAnswer.Low x z path)
+IsLeastValueAnswer n q d (ValueOnly.Depth path) = IsSearchAnswer Mode.Least n q d (SearchAnswer.Depth path)
+IsLeastValueAnswer n q d (ValueOnly.Wide at) = IsSearchAnswer Mode.Least n q d (SearchAnswer.Wide at.path at.entry)
+IsLeastValueAnswer n q d (ValueOnly.BoundWide z) = IsSearchAnswer Mode.Least n q d (SearchAnswer.BoundWide z)
 
 pub record IsLeastValue (n : ℕ) (q : Matrix) (m : ℤ) : Type 0 where
   pub positive : pos 1 ≤ℤ m
@@ -46,9 +47,9 @@ IsValueOf Least.OutOfMemory answer = Unit {0}
 
 abbrev pub ValueIsOfLeast : Type 0
 ValueIsOfLeast = (n : ℕ) (q : Matrix) (d : ℕ) (least : Least) (answer : ValueOnly)
-    → IsLeastAnswer n q d least → IsValueAnswer n q d answer → IsValueOf least answer
+    → IsLeastAnswer n q d least → IsLeastValueAnswer n q d answer → IsValueOf least answer
 
-pub record IsEmptied (a b : ShownArena) : Type 0 where
+pub record IsArenaEmptied (a b : ShownArena) : Type 0 where
   pub size : b.size ≡ a.size
   pub depth : b.depth ≡ a.depth
   pub empty : b.cones ≡ []

@@ -2,9 +2,9 @@
 --
 --     ComesFirst path first      the path is no deeper than that of the first low cone so far, or there is none so far
 --     ComesBehind path first     there is one so far, and its path is no deeper
---     IsNoted c fate old new     where c is low and comes first, it is the first low cone of new; else new is old
+--     IsLowNoted c fate old new  where c is low and comes first, it is the first low cone of new; else new is old
 --     IsFirstLowCone n q d low   the first low path of the tree, with the first low generator of its cone, from 1
---     IsFinalWord n q d word     no cone of the tree is low, and the word stands for the final bound
+--     IsClearWord n q d word     no cone of the tree is low, and the word stands for the final bound
 --     IsFallen n q d fallen      what a first walk finds is the one or the other
 use Rattle.std.specs.Prelude.{ℕ, ◌≤◌, ◌-◌, ◌≡◌, ◌⊎◌, Option, Some, None}
 use Rattle.unimodular_cone.specs.Cones.{Matrix, cone_at}
@@ -26,25 +26,25 @@ abbrev pub ComesBehind : Path → Option LowCone → Type 0
 ComesBehind path None = ⊥
 ComesBehind path (Some low) = IsNoDeeper low.path path
 
-abbrev pub IsNoted : ShownCone → Fate → Option LowCone → Option LowCone → Type 0
-IsNoted c (Fate.Low k) old new = (ComesFirst c.path old × (new ≡ Some (record { path = c.path; which = k })))
+abbrev pub IsLowNoted : ShownCone → Fate → Option LowCone → Option LowCone → Type 0
+IsLowNoted c (Fate.Low k) old new = (ComesFirst c.path old × (new ≡ Some (record { path = c.path; which = k })))
     ⊎ (ComesBehind c.path old × (new ≡ old))
-IsNoted c (Fate.Closed w) old new = new ≡ old
-IsNoted c (Fate.Split i j w) old new = new ≡ old
-IsNoted c (Fate.Dropped w) old new = new ≡ old
-IsNoted c (Fate.AtLimit w) old new = new ≡ old
-IsNoted c (Fate.Wide w at) old new = new ≡ old
+IsLowNoted c (Fate.Closed w) old new = new ≡ old
+IsLowNoted c (Fate.Split i j w) old new = new ≡ old
+IsLowNoted c (Fate.Dropped w) old new = new ≡ old
+IsLowNoted c (Fate.AtLimit w) old new = new ≡ old
+IsLowNoted c (Fate.Wide w at) old new = new ≡ old
 
 pub record IsFirstLowCone (n : ℕ) (q : Matrix) (d : ℕ) (low : LowCone) : Type 0 where
   pub path : IsFirstLow Mode.Least n q d low.path
   pub some : 1 ≤ low.which
   pub which : IsFirstLowAt Mode.Least n q (cone_at n q low.path) (low.which - 1)
 
-pub record IsFinalWord (n : ℕ) (q : Matrix) (d : ℕ) (word : ℕ) : Type 0 where
+pub record IsClearWord (n : ℕ) (q : Matrix) (d : ℕ) (word : ℕ) : Type 0 where
   pub clear : IsClear Mode.Least n q d
   pub past : 257 ≤ word
   pub bound : IsFinalBound Mode.Least n q d (bound_under Mode.Least word)
 
 abbrev pub IsFallen : ℕ → Matrix → ℕ → Fallen → Type 0
 IsFallen n q d (Fallen.Low low) = IsFirstLowCone n q d low
-IsFallen n q d (Fallen.Word word) = IsFinalWord n q d word
+IsFallen n q d (Fallen.Word word) = IsClearWord n q d word

@@ -2,6 +2,7 @@
 #![tactic(auto)]
 
 mod law;
+mod narrow_search;
 #[cfg(test)]
 mod plain;
 mod search;

@@ -5,6 +5,7 @@ ghost use Rattle.symmetric_matrix.specs.Symmetric.{entry};
 ghost use Rattle.unimodular_cone.specs.Answer.{BoundFits, IsLeastDiagonal};
 ghost use Rattle.search_core.specs.Answers.{IsLeastAnswer, IsSignAnswer};
 
+use crate::narrow_search::search_narrow;
 use crate::search::search;
 use cone_arena::ConeArena;
 use search_core::{Least, Searcher, Sign, least_diagonal, settle_least_part, settle_sign_part};
@@ -40,7 +41,8 @@ impl Searcher for SerialSearcher {
 
 /// The least diagonal entry, where it is over 2^63 - 1.
 pub fn bound_wide(q: &SymInt) -> Option<i128>
-    ensures { MatchOption result (BoundFits Mode.Least q.now.size (entry q.now)) (λ z. IsLeastDiagonal q.now.size (entry q.now) z × (pos (2 ^ 63 - 1) <ℤ z)) }
+    ensures { MatchOption result (BoundFits Mode.Least q.now.size (entry q.now))
+        (λ z. IsLeastDiagonal q.now.size (entry q.now) z × (pos (2 ^ 63 - 1) <ℤ z)) }
 {
     let least = least_diagonal(q);
     if least > (1 << 63) - 1 {
@@ -50,8 +52,22 @@ pub fn bound_wide(q: &SymInt) -> Option<i128>
     }
 }
 
-/// The least value of a matrix whose least diagonal entry is at most 2^63 - 1.
+/// The least value of a matrix whose least diagonal entry is at most 2^63 - 1: over narrow cones, and where one is not narrow over
+/// cones of any Gram entries, from the root again.
 fn least_within(alloc: Global, q: &SymInt, limit: u8) -> Least
+    requires limited { limit ≤ 200 }
+    requires bound_fits { BoundFits Mode.Least q.now.size (entry q.now) }
+    ensures { IsLeastAnswer q.now.size (entry q.now) limit result }
+{
+    match search_narrow(alloc, Mode::Least, q, limit) {
+        Err(_) => Least::OutOfMemory,
+        Ok(None) => least_wide(alloc, q, limit),
+        Ok(Some(found)) => settle_least_part(alloc, q, limit, &found.judged, found.final_word),
+    }
+}
+
+/// The same, over cones of any Gram entries.
+fn least_wide(alloc: Global, q: &SymInt, limit: u8) -> Least
     requires limited { limit ≤ 200 }
     requires bound_fits { BoundFits Mode.Least q.now.size (entry q.now) }
     ensures { IsLeastAnswer q.now.size (entry q.now) limit result }
@@ -80,8 +96,21 @@ fn least_over(alloc: Global, q: &SymInt, limit: u8, mut arena: ConeArena) -> Lea
     }
 }
 
-/// Whether some value is below 0.
+/// Whether some value is below 0: over narrow cones, and where one is not narrow over cones of any Gram entries, from the root
+/// again.
 fn sign_within(alloc: Global, q: &SymInt, limit: u8) -> Sign
+    requires { limit ≤ 200 }
+    ensures { IsSignAnswer q.now.size (entry q.now) limit result }
+{
+    match search_narrow(alloc, Mode::Sign, q, limit) {
+        Err(_) => Sign::OutOfMemory,
+        Ok(None) => sign_wide(alloc, q, limit),
+        Ok(Some(found)) => settle_sign_part(alloc, q, limit, &found.judged, found.final_word),
+    }
+}
+
+/// The same, over cones of any Gram entries.
+fn sign_wide(alloc: Global, q: &SymInt, limit: u8) -> Sign
     requires { limit ≤ 200 }
     ensures { IsSignAnswer q.now.size (entry q.now) limit result }
 {

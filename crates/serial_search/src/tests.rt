@@ -187,6 +187,33 @@ fn entries_over_their_limits(rt: HostRuntime) -> Result<(), Fail> {
     Ok(())
 }
 
+/// 2^59, the narrow limit.
+const NARROW: i128 = 576460752303423488;
+
+/// Searches the matrix `first -1 / -1 4`, whose child 0 has the entry first + 2 at (1, 1), where first is at least 5.
+fn assert_four(rt: &impl Abort, alloc: Global, first: i128) -> Result<(), Fail>
+    requires { nat_abs first ≤ 2 ^ 126 }
+{
+    let mut searcher = SerialSearcher::new(alloc);
+    let q = two(alloc, first, -1, 4)?;
+    assert_found(rt, &searcher.least(&q, 1), 4, &[0, 1]);
+    assert_least_depth(rt, &searcher.least(&q, 0), &[]);
+    match searcher.sign(&q, 1) {
+        Sign::Copositive => Ok(()),
+        _ => panic!(rt; "not copositive"),
+    }
+}
+
+// Over narrow cones alone, begun again at a child that isn't narrow, and from a root that isn't.
+#[test]
+fn searches_at_the_narrow_limit(rt: HostRuntime) -> Result<(), Fail> {
+    let alloc = rt.alloc();
+    assert_four(&rt, alloc, NARROW - 2)?;
+    assert_four(&rt, alloc, NARROW)?;
+    assert_four(&rt, alloc, NARROW + 1)?;
+    Ok(())
+}
+
 #[test]
 fn every_judgement_settles_to_the_same(rt: HostRuntime) -> Result<(), Fail> {
     let alloc = rt.alloc();

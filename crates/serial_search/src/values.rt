@@ -11,8 +11,8 @@ ghost use Rattle.unimodular_cone.specs.Answer.{BoundFits, IsListOf};
 ghost use Rattle.unimodular_cone.specs.Shown.{IsWithinLimits, shown_generators};
 ghost use Rattle.search_core.specs.Attaining.{IsKeyOf};
 ghost use Rattle.serial_search.specs.Turns.{IsRootAlone};
-ghost use Rattle.serial_search.specs.Values.{IsValueAnswer, ValueHolds, IsEmptied};
-ghost use Rattle.serial_search.specs.Walks.{ComesFirst, ComesBehind, IsNoted, IsFirstLowCone, IsFinalWord, IsFallen};
+ghost use Rattle.serial_search.specs.Values.{IsLeastValueAnswer, ValueHolds, IsArenaEmptied};
+ghost use Rattle.serial_search.specs.Walks.{ComesFirst, ComesBehind, IsLowNoted, IsFirstLowCone, IsClearWord, IsFallen};
 
 use crate::search::turn;
 use crate::searcher::bound_wide;
@@ -68,9 +68,9 @@ pub fn least_value_in(arena: &mut ConeArena, q: &SymInt, limit: u8) -> ValueOnly
     requires empty { arena.old.cones ≡ [] }
     requires size { arena.old.size ≡ q.now.size }
     requires room { limit ≤ arena.old.depth }
-    ensures answer { IsValueAnswer q.now.size (entry q.now) limit result }
+    ensures answer { IsLeastValueAnswer q.now.size (entry q.now) limit result }
     ensures holds { ValueHolds q.now.size (entry q.now) result }
-    ensures emptied { IsEmptied arena.old arena.new }
+    ensures emptied { IsArenaEmptied arena.old arena.new }
 {
     let alloc = arena.allocator();
     match bound_wide(q) {
@@ -86,8 +86,8 @@ fn value_within(alloc: Global, arena: &mut ConeArena, q: &SymInt, limit: u8) -> 
     requires empty { arena.old.cones ≡ [] }
     requires size { arena.old.size ≡ q.now.size }
     requires room { limit ≤ arena.old.depth }
-    ensures answer { IsValueAnswer q.now.size (entry q.now) limit result }
-    ensures emptied { IsEmptied arena.old arena.new }
+    ensures answer { IsLeastValueAnswer q.now.size (entry q.now) limit result }
+    ensures emptied { IsArenaEmptied arena.old arena.new }
 {
     match arena.push_root(q) {
         Err(at) => ValueOnly::Wide { at },
@@ -111,7 +111,7 @@ fn comes_first(path: &Path, first: &Option<LowCone>) -> bool
 /// Notes a cone of this fate if it is low and comes before the first low cone so far.
 #[inline(always)]
 fn note_low<C: ConeRead>(first: &mut Option<LowCone>, c: &C, fate: &Fate)
-    ensures { IsNoted (C.cone c.now) fate.now first.old first.new }
+    ensures { IsLowNoted (C.cone c.now) fate.now first.old first.new }
 {
     if let Fate::Low { which } = *fate {
         let path = c.path();
@@ -129,7 +129,7 @@ fn first_walk(arena: &mut ConeArena, q: &SymInt, limit: u8) -> Fallen
     requires room { limit ≤ arena.old.depth }
     requires root { IsRootAlone q.now arena.old.cones }
     ensures fallen { IsFallen q.now.size (entry q.now) limit result }
-    ensures emptied { IsEmptied arena.old arena.new }
+    ensures emptied { IsArenaEmptied arena.old arena.new }
 {
     let _n = q.n();
     let mut word = start_word(Mode::Least, q);
@@ -185,7 +185,7 @@ fn low_answer(alloc: Global, q: &SymInt, limit: u8, first: LowCone) -> ValueOnly
     requires bound_fits { BoundFits Mode.Least q.now.size (entry q.now) }
     requires fits { Fits q.now.size (entry q.now) unit_vectors }
     requires first { IsFirstLowCone q.now.size (entry q.now) limit first }
-    ensures { IsValueAnswer q.now.size (entry q.now) limit result }
+    ensures { IsLeastValueAnswer q.now.size (entry q.now) limit result }
 {
     let _n = q.n();
     let Ok(cone) = at_path(q, &first.path) else {
@@ -201,12 +201,12 @@ fn low_answer(alloc: Global, q: &SymInt, limit: u8, first: LowCone) -> ValueOnly
 /// The answer where no cone is low, by the final word.
 fn value_under(arena: &mut ConeArena, q: &SymInt, limit: u8, word: u64) -> ValueOnly
     requires limited { limit ≤ 200 }
-    requires final_word { IsFinalWord q.now.size (entry q.now) limit word }
+    requires final_word { IsClearWord q.now.size (entry q.now) limit word }
     requires empty { arena.old.cones ≡ [] }
     requires size { arena.old.size ≡ q.now.size }
     requires room { limit ≤ arena.old.depth }
-    ensures answer { IsValueAnswer q.now.size (entry q.now) limit result }
-    ensures emptied { IsEmptied arena.old arena.new }
+    ensures answer { IsLeastValueAnswer q.now.size (entry q.now) limit result }
+    ensures emptied { IsArenaEmptied arena.old arena.new }
 {
     let Ok(()) = arena.push_root(q) else {
         unreachable!()
@@ -220,10 +220,10 @@ fn value_under(arena: &mut ConeArena, q: &SymInt, limit: u8, word: u64) -> Value
 /// the first cone that is open.
 fn second_walk(arena: &mut ConeArena, q: &SymInt, limit: u8, word: u64) -> ValueOnly
     requires limited { limit ≤ 200 }
-    requires final_word { IsFinalWord q.now.size (entry q.now) limit word }
+    requires final_word { IsClearWord q.now.size (entry q.now) limit word }
     requires room { limit ≤ arena.old.depth }
     requires root { IsRootAlone q.now arena.old.cones }
-    ensures answer { IsValueAnswer q.now.size (entry q.now) limit result }
+    ensures answer { IsLeastValueAnswer q.now.size (entry q.now) limit result }
     ensures size { arena.new.size ≡ arena.old.size }
     ensures depth { arena.new.depth ≡ arena.old.depth }
 {
@@ -244,7 +244,7 @@ fn second_walk(arena: &mut ConeArena, q: &SymInt, limit: u8, word: u64) -> Value
 
 /// Takes all cones away.
 fn take_all(arena: &mut ConeArena)
-    ensures { IsEmptied arena.old arena.new }
+    ensures { IsArenaEmptied arena.old arena.new }
 {
     while arena.len() > 0 {
         arena.drop_top();

@@ -10,6 +10,7 @@ use lib.Count.{count_trailing_zeros, under}
 use Rattle.commutative_ring.specs.Gcd.{gcd_of, gcd_steps}
 use Rattle.commutative_ring.proofs.Gcd.{gcd_of_is, gcd_of_scaled, gcd_of-step, gcd_of-zero, gcd_of-le_left, dvd_of_dvd-mul}
 use Rattle.commutative_ring.proofs.Coprime.{gcd_comm, coprime-dvd, coprime-mul_right}
+use Rattle.commutative_ring.proofs.SmallCases.{mod_one}
 
 -- a number of k digits is an odd part times the power of two of its trailing zeros
 pub record IsOddPart (k n t : ℕ) : Type 0 where
@@ -41,16 +42,17 @@ unfolding count_trailing_zeros
 trailing_split zero n p h = absurd (omega arith)
 trailing_split (suc k) n p h = by (bit_cases n) (λ e. trailing_split k (n / 2) (omega arith) (halved n k h))
   where
-    by : ((n % 2 ≡ 0) ⊎ (n % 2 ≡ 1)) → (n % 2 ≡ 0 → IsOddPart k (n / 2) (count_trailing_zeros k (n / 2))) → IsOddPart (suc k) n (under (n % 2) (count_trailing_zeros k (n / 2)))
-    by (inl e) rec = subst (λ d. IsOddPart (suc k) n (under d (count_trailing_zeros k (n / 2)))) (sym e) (split_more k n (count_trailing_zeros k (n / 2)) e (rec e))
-    by (inr e) rec = subst (λ d. IsOddPart (suc k) n (under d (count_trailing_zeros k (n / 2)))) (sym e) (record { odd = ap (λ m. m % 2) (over_one n) ∙ e; whole = (omega arith); within = (omega arith) })
+    by : ((n % 2 ≡ 0) ⊎ (n % 2 ≡ 1)) → (n % 2 ≡ 0 → IsOddPart k (n / 2) (count_trailing_zeros k (n / 2)))
+        → IsOddPart (suc k) n (under (n % 2) (count_trailing_zeros k (n / 2)))
+    by (inl e) rec =
+        subst (λ d. IsOddPart (suc k) n (under d (count_trailing_zeros k (n / 2)))) (sym e) (split_more k n (count_trailing_zeros k (n / 2)) e (rec e))
+    by (inr e) rec =
+        subst (λ d. IsOddPart (suc k) n (under d (count_trailing_zeros k (n / 2)))) (sym e)
+        (record { odd = ap (λ m. m % 2) (over_one n) ∙ e; whole = (omega arith); within = (omega arith) })
 
 pub gcd_of_one : (a : ℕ) → gcd_of a 1 ≡ 1
 unfolding gcd_of gcd_steps
-gcd_of_one a = gcd_of-step a 1 ∙ ap (λ r. gcd_of 1 r) (over a) ∙ refl
-  where
-    over : (a : ℕ) → a % 1 ≡ 0
-    over a = omega arith
+gcd_of_one a = gcd_of-step a 1 ∙ ap (λ r. gcd_of 1 r) (mod_one a) ∙ refl
 
 -- ---- powers of two and odd numbers
 odd_two : (p : ℕ) → p % 2 ≡ 1 → gcd_of p 2 ≡ 1
@@ -132,8 +134,24 @@ step a b oa ob ha hb ne = by (cases a b ne)
         )
 
     by : (((b < a) × ((a - b) + (b - a) ≡ a - b) × (min a b ≡ b)) ⊎ ((a < b) × ((a - b) + (b - a) ≡ b - a) × (min a b ≡ a))) → IsStep a b ((a - b) + (b - a))
-    by (inl (lt, g, m)) = let l = less a b ob ha lt in rw g (record { odd = l.0; same = l.1 ∙ ap (λ n. gcd_of ((a - b) / 2 ^ count_trailing_zeros 64 (a - b)) n) (sym m); kept = ap (λ n. n % 2) m ∙ ob; fits = l.3; kept_fits = (rw m hb); smaller = (rw m l.2) })
-    by (inr (lt, g, m)) = let l = less b a oa hb lt in rw g (record { odd = l.0; same = gcd_comm a b ∙ l.1 ∙ ap (λ n. gcd_of ((b - a) / 2 ^ count_trailing_zeros 64 (b - a)) n) (sym m); kept = ap (λ n. n % 2) m ∙ oa; fits = l.3; kept_fits = (rw m ha); smaller = (rw m (let k = l.2 in omega arith)) })
+    by (inl (lt, g, m)) = let l = less a b ob ha lt in
+        rw g (record {
+          odd = l.0;
+          same = l.1 ∙ ap (λ n. gcd_of ((a - b) / 2 ^ count_trailing_zeros 64 (a - b)) n) (sym m);
+          kept = ap (λ n. n % 2) m ∙ ob;
+          fits = l.3;
+          kept_fits = (rw m hb);
+          smaller = (rw m l.2);
+        })
+    by (inr (lt, g, m)) = let l = less b a oa hb lt in
+        rw g (record {
+          odd = l.0;
+          same = gcd_comm a b ∙ l.1 ∙ ap (λ n. gcd_of ((b - a) / 2 ^ count_trailing_zeros 64 (b - a)) n) (sym m);
+          kept = ap (λ n. n % 2) m ∙ oa;
+          fits = l.3;
+          kept_fits = (rw m ha);
+          smaller = (rw m (let k = l.2 in omega arith));
+        })
 
 pub gcd_of_same : (a : ℕ) → gcd_of a a ≡ a
 gcd_of_same a = same_from_IsGcd a a (gcd_of a a) a (gcd_of_is a a) (dvd_refl a, dvd_refl a, λ d x y. x)

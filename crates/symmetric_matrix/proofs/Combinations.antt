@@ -1,9 +1,10 @@
 -- The steps of combinations.
-use Rattle.std.specs.Prelude.{◌≡◌, ℕ, ◌+◌, ◌-◌, ◌^◌, ◌<◌, ◌≤◌, ◌⊎◌, ℤ, pos, nat_abs, nat_lt, ◌+ℤ◌, ◌*ℤ◌, Bool, true, false, List, [], ◌∷◌, ◌++◌, map, drop, length, slice_index_or, Some, None, Ok, Err, if◌then◌else◌}
+use Rattle.std.specs.Prelude.{◌≡◌, ℕ, ◌+◌, ◌-◌, ◌^◌, ◌<◌, ◌≤◌, ◌⊎◌, ℤ, pos, nat_abs, ◌+ℤ◌, ◌*ℤ◌, Bool, true, false, List, [], ◌∷◌, ◌++◌, map, drop, length}
+use Rattle.std.specs.Prelude.{slice_index_or, Some, None, Ok, Err, if◌then◌else◌}
 use Rattle.std.specs.List.{flat_map}
 use Rattle.std.proofs.Common.{arith, sym, ◌∙◌, ap, ap₂, refl, inl, inr, add-one, drop-cons, drop_of_length-le, append-nil}
-use Rattle.std.proofs.lemmas.Bool.Decides.{nat_tests}
 use Rattle.std.proofs.lemmas.List.{length-map, get_or_append_left, get_or_push, length_push, append_assoc}
+use Rattle.commutative_ring.proofs.SmallCases.{at_least_of_test, at_least_or_at_most, before_or_here}
 use Rattle.exact_forms.specs.Triangles.{triangle}
 use Rattle.exact_forms.proofs.Triangles.{place_of}
 use Rattle.symmetric_matrix.specs.declared.operation.IntOp.{IntOp}
@@ -20,10 +21,12 @@ use Rattle.symmetric_matrix.proofs.TrianglePlaces.{place, length-triangle_places
 abbrev pub entry_ops : ℤ → ℤ → ℤ → ℤ → List IntOp
 entry_ops q a p b = mul_op q a ∷ mul_op p b ∷ add_op (q *ℤ a) (p *ℤ b) ∷ []
 
-pub first_product_refused : (q a p b : ℤ) (err : IntOp) → answer is_owed (mul_op q a ∷ []) (q *ℤ a) ≡ Err err → answer is_owed (entry_ops q a p b) (q *ℤ a +ℤ p *ℤ b) ≡ Err err
+pub first_product_refused : (q a p b : ℤ) (err : IntOp) → answer is_owed (mul_op q a ∷ []) (q *ℤ a) ≡ Err err
+    → answer is_owed (entry_ops q a p b) (q *ℤ a +ℤ p *ℤ b) ≡ Err err
 first_product_refused q a p b err h = answer-append_err is_owed (mul_op q a ∷ []) (mul_op p b ∷ add_op (q *ℤ a) (p *ℤ b) ∷ []) (q *ℤ a) (q *ℤ a +ℤ p *ℤ b) err h
 
-pub second_product_refused : (q a p b u : ℤ) (err : IntOp) → answer is_owed (mul_op q a ∷ []) (q *ℤ a) ≡ Ok u → answer is_owed (mul_op p b ∷ []) (p *ℤ b) ≡ Err err
+pub second_product_refused : (q a p b u : ℤ) (err : IntOp) → answer is_owed (mul_op q a ∷ []) (q *ℤ a) ≡ Ok u
+    → answer is_owed (mul_op p b ∷ []) (p *ℤ b) ≡ Err err
     → answer is_owed (entry_ops q a p b) (q *ℤ a +ℤ p *ℤ b) ≡ Err err
 second_product_refused q a p b u err h k =
     (answer-append_ok is_owed (mul_op q a ∷ []) (mul_op p b ∷ add_op (q *ℤ a) (p *ℤ b) ∷ []) (q *ℤ a) u (q *ℤ a +ℤ p *ℤ b) h).0
@@ -41,17 +44,15 @@ pub sum_narrow : (q a p b z : ℤ) → answer is_owed (entry_ops q a p b) (q *�
 unfolding answer
 sum_narrow q a p b z h = third (is_owed (mul_op q a)) (is_owed (mul_op p b)) (is_owed (add_op (q *ℤ a) (p *ℤ b))) refl h
   where
-    within : (n : ℕ) → nat_lt (2 ^ 127 - 1) n ≡ false → n ≤ 2 ^ 127 - 1
-    within n h = grind (arith, nat_tests)
-
     third : (x y w : Bool) → is_owed (add_op (q *ℤ a) (p *ℤ b)) ≡ w
-        → (if x then Err (mul_op q a) else if y then Err (mul_op p b) else if w then Err (add_op (q *ℤ a) (p *ℤ b)) else Ok (q *ℤ a +ℤ p *ℤ b)) ≡ Ok z → FitsInt z
+        → (if x then Err (mul_op q a) else if y then Err (mul_op p b) else if w then Err (add_op (q *ℤ a) (p *ℤ b)) else Ok (q *ℤ a +ℤ p *ℤ b)) ≡ Ok z
+        → FitsInt z
     third true y w e h = absurd cc
     third false true w e h = absurd cc
     third false false true e h = absurd cc
     third false false false e h =
         let is : z ≡ q *ℤ a +ℤ p *ℤ b = cc in
-        rw is (within (nat_abs (q *ℤ a +ℤ p *ℤ b)) e)
+        rw is (at_least_of_test (2 ^ 127 - 1) (nat_abs (q *ℤ a +ℤ p *ℤ b)) e)
 
 -- ---- the entries in order
 pub entry_of : Symmetric → Place → ℤ
@@ -92,7 +93,8 @@ module _ (q : ℤ) (P : Symmetric) (p : ℤ) (R : Symmetric) where
         entry_of_place R P.size k (place 0 0) l,
       )
 
-  pub combine_refused : (k : ℕ) (sums : List ℤ) (a b : ℤ) (err : IntOp) → k < triangle P.size → a ≡ slice_index_or P.lower k (pos 0) → b ≡ slice_index_or R.lower k (pos 0)
+  pub combine_refused : (k : ℕ) (sums : List ℤ) (a b : ℤ) (err : IntOp) → k < triangle P.size → a ≡ slice_index_or P.lower k (pos 0)
+      → b ≡ slice_index_or R.lower k (pos 0)
       → answer is_owed (entry_ops q a p b) (q *ℤ a +ℤ p *ℤ b) ≡ Err err → IsCombinedTo k sums → first_owed is_owed (combine_ops q P p R) ≡ Some err
   combine_refused k sums a b err l is_a is_b refused h =
       let c = places_at k l in
@@ -101,7 +103,8 @@ module _ (q : ℤ) (P : Symmetric) (p : ℤ) (R : Symmetric) where
       (ap₂ (λ (a : ℤ) (b : ℤ). first_owed is_owed (entry_ops q a p b)) (c.2 ∙ sym is_a) (c.3 ∙ sym is_b)
       ∙ some_of_err is_owed (entry_ops q a p b) (q *ℤ a +ℤ p *ℤ b) err refused)
 
-  pub combine_continues : (k : ℕ) (sums : List ℤ) (a b z : ℤ) → k < triangle P.size → a ≡ slice_index_or P.lower k (pos 0) → b ≡ slice_index_or R.lower k (pos 0)
+  pub combine_continues : (k : ℕ) (sums : List ℤ) (a b z : ℤ) → k < triangle P.size → a ≡ slice_index_or P.lower k (pos 0)
+      → b ≡ slice_index_or R.lower k (pos 0)
       → answer is_owed (entry_ops q a p b) (q *ℤ a +ℤ p *ℤ b) ≡ Ok z → IsCombinedTo k sums → IsCombinedTo (k + 1) (sums ++ z ∷ [])
   unfolding sum_at
   combine_continues k sums a b z l is_a is_b done h =
@@ -115,12 +118,9 @@ module _ (q : ℤ) (P : Symmetric) (p : ℤ) (R : Symmetric) where
         owes = h.owes ∙ ap (λ cs. first_owed is_owed (flat_map (combine_at q P p R) cs)) c.1
             ∙ first_owed-append_none is_owed (combine_at q P p R c.0) (flat_map (combine_at q P p R) (drop (k + 1) (triangle_places P.size)))
             (ap₂ (λ (a : ℤ) (b : ℤ). first_owed is_owed (entry_ops q a p b)) (c.2 ∙ sym is_a) (c.3 ∙ sym is_b) ∙ made.0);
-        fits = λ i less. by i (below_or_last i (length sums) (omega (arith, length_push sums z)));
+        fits = λ i less. by i (before_or_here i (length sums) (omega (arith, length_push sums z)));
       }
     where
-      below_or_last : (i n : ℕ) → i < n + 1 → (i < n) ⊎ (i ≡ n)
-      below_or_last i n l = grind arith
-
       by : (i : ℕ) → ((i < length sums) ⊎ (i ≡ length sums)) → FitsInt (slice_index_or (sums ++ z ∷ []) i (pos 0))
       by i (inl l) = rw (get_or_append_left sums (z ∷ []) (pos 0) i l) (h.fits i l)
       by i (inr e) = rw (get_or_push sums z (pos 0) i (sym e)) (sum_narrow q a p b z done)
@@ -140,18 +140,17 @@ module _ (q : ℤ) (P : Symmetric) (p : ℤ) (R : Symmetric) where
         lower = record { entries = ap length are ∙ length-combined; fits = h.fits };
       }
 
-pub combined_is : (q : ℤ) (P : Symmetric) (p : ℤ) (R : Symmetric) (sums : List ℤ) → AreCombined q P p R sums → (first_owed is_owed (combine_ops q P p R) ≡ None) × (record { size = P.size; lower = sums } ≡ combined q P p R)
+pub combined_is : (q : ℤ) (P : Symmetric) (p : ℤ) (R : Symmetric) (sums : List ℤ) → AreCombined q P p R sums
+    → (first_owed is_owed (combine_ops q P p R) ≡ None) × (record { size = P.size; lower = sums } ≡ combined q P p R)
 unfolding combined
 combined_is q P p R sums h = (h.fits, ap (λ (sums : List ℤ). record { size = P.size; lower = sums }) h.are)
 
 -- each entry
-pub combined_entry : (q : ℤ) (P : Symmetric) (p : ℤ) (R : Symmetric) (i j : ℕ) → i < P.size → j < P.size → entry (combined q P p R) i j ≡ q *ℤ entry P i j +ℤ p *ℤ entry R i j
+pub combined_entry : (q : ℤ) (P : Symmetric) (p : ℤ) (R : Symmetric) (i j : ℕ) → i < P.size → j < P.size
+    → entry (combined q P p R) i j ≡ q *ℤ entry P i j +ℤ p *ℤ entry R i j
 unfolding combined sum_at
-combined_entry q P p R i j li lj = by (order i j)
+combined_entry q P p R i j li lj = by (at_least_or_at_most i j)
   where
-    order : (i j : ℕ) → (j ≤ i) ⊎ (i ≤ j)
-    order i j = grind arith
-
     lower : (i j : ℕ) → j ≤ i → i < P.size → entry (combined q P p R) i j ≡ q *ℤ entry P i j +ℤ p *ℤ entry R i j
     lower i j h l = placed_entry P.size (sum_at q P p R) i j h l
 

@@ -7,15 +7,13 @@ use Prim.Native.Nat.{◌∣◌}
 use native.Mathlib.Nat.{zero-mod}
 use Rattle.commutative_ring.specs.Gcd.{gcd_of}
 use Rattle.commutative_ring.proofs.Gcd.{gcd_of_is, gcd_of-le_left, gcd_of-zero, gcd_of-step}
+use Rattle.commutative_ring.proofs.SmallCases.{zero_or_some}
 use Rattle.symmetric_matrix.specs.Divisors.{divisor_from, IsGreatestDivisor}
 
 -- a divisor of two numbers below a bound is below it
 pub gcd_of_below : (a b w : ℕ) → a < w → b < w → gcd_of a b < w
-gcd_of_below a b w ha hb = by (zero_or_not a)
+gcd_of_below a b w ha hb = by (zero_or_some a)
   where
-    zero_or_not : (a : ℕ) → (a ≡ 0) ⊎ (0 < a)
-    zero_or_not a = grind arith
-
     by : ((a ≡ 0) ⊎ (0 < a)) → gcd_of a b < w
     by (inr p) = lt_of_le_of_lt (gcd_of-le_left a b p) ha
     by (inl e) =
@@ -56,13 +54,15 @@ unfolding divisor_from
 divides_all g [] = λ k d l. absurd (omega arith)
 divides_all g (z ∷ rest) =
     cons_all (λ y. divisor_from (gcd_of g (nat_abs z)) rest ∣ nat_abs y) z rest
-    (dvd_trans (divisor_from (gcd_of g (nat_abs z)) rest) (divides_start (gcd_of g (nat_abs z)) rest) (gcd_of_is g (nat_abs z)).1) (divides_all (gcd_of g (nat_abs z)) rest)
+    (dvd_trans (divisor_from (gcd_of g (nat_abs z)) rest) (divides_start (gcd_of g (nat_abs z)) rest) (gcd_of_is g (nat_abs z)).1)
+    (divides_all (gcd_of g (nat_abs z)) rest)
 
 greatest_from : (g : ℕ) (entries : List ℤ) (d : ℕ) → d ∣ g → All (λ z. d ∣ nat_abs z) entries → d ∣ divisor_from g entries
 unfolding divisor_from
 greatest_from g [] d h hs = h
 greatest_from g (z ∷ rest) d h hs =
-    greatest_from (gcd_of g (nat_abs z)) rest d ((gcd_of_is g (nat_abs z)).2 d h (head_of (λ z. d ∣ nat_abs z) z rest hs)) (tail_of (λ z. d ∣ nat_abs z) z rest hs)
+    greatest_from (gcd_of g (nat_abs z)) rest d ((gcd_of_is g (nat_abs z)).2 d h (head_of (λ z. d ∣ nat_abs z) z rest hs))
+    (tail_of (λ z. d ∣ nat_abs z) z rest hs)
 
 pub divisor_is_greatest : (entries : List ℤ) → IsGreatestDivisor (divisor_from 0 entries) entries
 divisor_is_greatest entries = record { divides = divides_all 0 entries; greatest = λ d h. greatest_from 0 entries d (dvd-zero d) h }

@@ -1,11 +1,15 @@
 -- The first matrix of a walk: its entries, its values as sums of squares, its copositive minimum and its minimal vectors.
-use Rattle.std.specs.Prelude.{◌≡◌, ◌≢◌, ℕ, zero, suc, ◌+◌, ◌<◌, ◌≤◌, ◌⊎◌, ℤ, pos, negsuc, nat_eq, nat_lt, nat_le, if◌then◌else◌, neg_ℤ, ◌+ℤ◌, ◌-ℤ◌, ◌*ℤ◌, ◌≤ℤ◌, List, [], ◌∷◌, ◌++◌, length, map, slice_index_or}
+use Rattle.std.specs.Prelude.{◌≡◌, ◌≢◌, ℕ, zero, suc, ◌+◌, ◌<◌, ◌≤◌, ◌⊎◌, ℤ, pos, negsuc, nat_eq, nat_lt, nat_le, if◌then◌else◌, neg_ℤ, ◌+ℤ◌, ◌-ℤ◌, ◌*ℤ◌, ◌≤ℤ◌}
+use Rattle.std.specs.Prelude.{List, [], ◌∷◌, ◌++◌, length, map, slice_index_or}
 use Rattle.std.specs.List.{range_with_len}
 use Rattle.std.proofs.Common.{arith, sym, ◌∙◌, ap, ap₂, refl, subst, inl, inr}
 use Rattle.std.proofs.lemmas.Int.{ints}
 use Rattle.std.proofs.lemmas.List.{append-nil, append_assoc, length-map, get_or-map, map-append}
 use Rattle.std.proofs.lemmas.List.FromFn.{map-range_with_len_more}
-use Rattle.commutative_ring.proofs.Expand.{expand, linear}
+use lib.IntN.{*ℤ_comm}
+use Rattle.commutative_ring.proofs.Expand.{expand, linear, times_one}
+use Rattle.commutative_ring.proofs.Laws.{neg_is_mul, zero_mul_ℤ}
+use Rattle.commutative_ring.proofs.SmallCases.{at_least_or_at_most, below_or_not, low_or_positive, next_or_within, three_ways, zero_or_some}
 use Rattle.exact_forms.specs.Sums.{sum_to}
 use Rattle.exact_forms.specs.Forms.{form, unit_sum, mark_ℤ}
 use Rattle.exact_forms.specs.Rational.{whole}
@@ -24,7 +28,8 @@ use Rattle.symmetric_matrix.specs.StartVectors.{Run, run_digit, run_vector, IsRu
 use Rattle.symmetric_matrix.specs.StartWeights.{start_coordinates}
 use Rattle.symmetric_matrix.specs.FirstMatrix.{first_minimum, first_entry, first_matrix}
 use Rattle.symmetric_matrix.proofs.Places.{entry_flip}
-use Rattle.symmetric_matrix.proofs.Runs.{run_digit_same, run_digit_inside, run_digit_before, run_digit_after, length-run_vector, run_vector_at, length-start_list, lists_start_vectors}
+use Rattle.symmetric_matrix.proofs.Runs.{run_digit_same, run_digit_inside, run_digit_before, run_digit_after, length-run_vector, run_vector_at}
+use Rattle.symmetric_matrix.proofs.Runs.{length-start_list, lists_start_vectors}
 use Rattle.symmetric_matrix.proofs.TrianglePlaces.{place, triangle_places_none, triangle_places_more, length-triangle_places, placed_entry}
 use Rattle.symmetric_matrix.proofs.Weights.{start_coordinates_write}
 
@@ -66,15 +71,10 @@ chain_row x i = pos 2 *ℤ sum_to i (λ j. chain_term x i j) +ℤ chain_term x i
 row_is : (x : ℕ → ℤ) (m : ℕ) → chain_row x (suc m) ≡ pos 2 *ℤ neg_ℤ (x (suc m) *ℤ x m) +ℤ pos 2 *ℤ (x (suc m) *ℤ x (suc m))
 row_is x m =
     ap₂ (λ (a : ℤ) (b : ℤ). pos 2 *ℤ a +ℤ b *ℤ (x (suc m) *ℤ x (suc m)))
-    (sum_to_one (suc m) (λ j. chain_term x (suc m) j) m (omega arith) (λ j l ne. ap (λ (z : ℤ). z *ℤ (x (suc m) *ℤ x j)) (chain_far m j (omega arith)) ∙ none (x (suc m) *ℤ x j))
-    ∙ ap (λ (z : ℤ). z *ℤ (x (suc m) *ℤ x m)) (chain_beside m) ∙ minus_once (x (suc m) *ℤ x m))
+    (sum_to_one (suc m) (λ j. chain_term x (suc m) j) m (omega arith) (λ j l ne. ap (λ (z : ℤ). z *ℤ (x (suc m) *ℤ x j)) (chain_far m j (omega arith))
+    ∙ zero_mul_ℤ (x (suc m) *ℤ x j))
+    ∙ ap (λ (z : ℤ). z *ℤ (x (suc m) *ℤ x m)) (chain_beside m) ∙ neg_is_mul (x (suc m) *ℤ x m))
     (chain_diagonal (suc m))
-  where
-    none : (z : ℤ) → pos 0 *ℤ z ≡ pos 0
-    none z = simp expand
-
-    minus_once : (z : ℤ) → negsuc 0 *ℤ z ≡ neg_ℤ z
-    minus_once z = omega (arith, ints)
 
 rows_are : (x : ℕ → ℤ) (m : ℕ) → sum_to (suc m) (λ i. chain_row x i) ≡ steps x m +ℤ x m *ℤ x m
 rows_are x zero =
@@ -96,43 +96,33 @@ rows_are x (suc m) =
 value_is : (m : ℕ) (x : ℕ → ℤ) → form (suc m) chain x ≡ steps x m +ℤ x m *ℤ x m
 value_is m x =
     bilinear_is (suc m) chain x x
-    ∙ sum_by_triangle (suc m) (λ i j. chain_term x i j) (λ i j li lj. ap₂ (λ (a : ℤ) (b : ℤ). a *ℤ b) (chain_symmetric i j) (swap (x i) (x j)))
+    ∙ sum_by_triangle (suc m) (λ i j. chain_term x i j) (λ i j li lj. ap₂ (λ (a : ℤ) (b : ℤ). a *ℤ b) (chain_symmetric i j) (*ℤ_comm (x i) (x j)))
     ∙ rows_are x m
-  where
-    swap : (a b : ℤ) → a *ℤ b ≡ b *ℤ a
-    swap a b = simp expand
 
 -- ---- twice a coordinate is at most the value
 over_square : (z : ℤ) → z ≤ℤ (z *ℤ z)
-over_square z = by (order z)
+over_square z = by (low_or_positive z)
   where
-    order : (z : ℤ) → (z ≤ℤ pos 0) ⊎ (pos 1 ≤ℤ z)
-    order z = grind (arith, ints)
-
-    once : (z : ℤ) → z *ℤ pos 1 ≡ z
-    once z = simp expand
-
     by : ((z ≤ℤ pos 0) ⊎ (pos 1 ≤ℤ z)) → z ≤ℤ (z *ℤ z)
     by (inl h) = let a = nonneg_square z in omega (arith, ints)
-    by (inr h) = subst (λ (y : ℤ). y ≤ℤ (z *ℤ z)) (once z) (mul_le_left z (pos 1) z (omega (arith, ints)) h)
+    by (inr h) = subst (λ (y : ℤ). y ≤ℤ (z *ℤ z)) (times_one z) (mul_le_left z (pos 1) z (omega (arith, ints)) h)
 
 steps_over : (x : ℕ → ℤ) (m p : ℕ) → p ≤ m → (x p +ℤ x p) ≤ℤ (steps x m +ℤ x m)
 steps_over x zero p h =
     let e : p ≡ 0 = omega arith in
     let a : x 0 ≤ℤ (x 0 *ℤ x 0) = over_square (x 0) in
     rw (e, steps-zero x) (omega (arith, linear))
-steps_over x (suc m) p h = rw (steps-suc x m) (by (here_or_before p m h) (steps_over x m))
+steps_over x (suc m) p h = rw (steps-suc x m) (by (next_or_within p m h) (steps_over x m))
   where
-    here_or_before : (p m : ℕ) → p ≤ suc m → (p ≡ suc m) ⊎ (p ≤ m)
-    here_or_before p m h = grind arith
-
     mirrored : (a b : ℤ) → (b -ℤ a) *ℤ (b -ℤ a) ≡ (a -ℤ b) *ℤ (a -ℤ b)
     mirrored a b = simp expand (omega (arith, linear))
 
-    by : ((p ≡ suc m) ⊎ (p ≤ m)) → ((p : ℕ) → p ≤ m → (x p +ℤ x p) ≤ℤ (steps x m +ℤ x m)) → (x p +ℤ x p) ≤ℤ (steps x m +ℤ (x m -ℤ x (suc m)) *ℤ (x m -ℤ x (suc m)) +ℤ x (suc m))
+    by : ((p ≡ suc m) ⊎ (p ≤ m)) → ((p : ℕ) → p ≤ m → (x p +ℤ x p) ≤ℤ (steps x m +ℤ x m))
+        → (x p +ℤ x p) ≤ℤ (steps x m +ℤ (x m -ℤ x (suc m)) *ℤ (x m -ℤ x (suc m)) +ℤ x (suc m))
     by (inl e) before =
         let r : (x m +ℤ x m) ≤ℤ (steps x m +ℤ x m) = before m (omega arith) in
-        let a : (x (suc m) -ℤ x m) ≤ℤ ((x m -ℤ x (suc m)) *ℤ (x m -ℤ x (suc m))) = subst (λ (z : ℤ). (x (suc m) -ℤ x m) ≤ℤ z) (mirrored (x m) (x (suc m))) (over_square (x (suc m) -ℤ x m)) in
+        let a : (x (suc m) -ℤ x m) ≤ℤ ((x m -ℤ x (suc m)) *ℤ (x m -ℤ x (suc m))) =
+        subst (λ (z : ℤ). (x (suc m) -ℤ x m) ≤ℤ z) (mirrored (x m) (x (suc m))) (over_square (x (suc m) -ℤ x m)) in
         rw e (omega (arith, linear))
     by (inr l) before =
         let r : (x p +ℤ x p) ≤ℤ (steps x m +ℤ x m) = before p l in
@@ -156,12 +146,9 @@ data Shape (x : ℕ → ℤ) (m : ℕ) : Type 0 where
 abbrev IsDigit : ℤ → Type 0
 IsDigit z = (z ≡ pos 0) ⊎ (z ≡ pos 1)
 
-here_or_before : (p m : ℕ) → p ≤ suc m → (p ≡ suc m) ⊎ (p ≤ m)
-here_or_before p m h = grind arith
-
 -- one digit more
 extended : (x : ℕ → ℤ) (m : ℕ) (y : ℕ → ℤ) → ((p : ℕ) → p ≤ m → x p ≡ y p) → x (suc m) ≡ y (suc m) → (p : ℕ) → p ≤ suc m → x p ≡ y p
-extended x m y before here p h = by (here_or_before p m h)
+extended x m y before here p h = by (next_or_within p m h)
   where
     by : ((p ≡ suc m) ⊎ (p ≤ m)) → x p ≡ y p
     by (inl e) = ap x e ∙ here ∙ ap y (sym e)
@@ -174,14 +161,16 @@ first_shape : (x : ℕ → ℤ) → IsDigit (x 0) → Shape x 0
 first_shape x (inl e) = none (λ p h. let z : p ≡ 0 = omega arith in ap x z ∙ e) (steps-zero x ∙ ap (λ (z : ℤ). z *ℤ z) e)
 first_shape x (inr e) =
     let r : Run = record { first = 0; last = 0 } in
-    running r (omega arith) refl (λ p h. let z : p ≡ 0 = omega arith in ap x z ∙ e ∙ ap pos (sym (run_digit_inside r p (omega arith) (omega arith)))) (steps-zero x ∙ ap (λ (z : ℤ). z *ℤ z) e)
+    running r (omega arith) refl (λ p h. let z : p ≡ 0 = omega arith in ap x z ∙ e
+    ∙ ap pos (sym (run_digit_inside r p (omega arith) (omega arith)))) (steps-zero x ∙ ap (λ (z : ℤ). z *ℤ z) e)
 
 next_shape : (x : ℕ → ℤ) (m : ℕ) → Shape x m → IsDigit (x (suc m)) → Shape x (suc m)
 next_shape x m (none zeros s) (inl e) = none (extended x m (λ p. pos 0) zeros e) (step_to x m (pos 0) (pos 0) (pos 0) s (zeros m (omega arith)) e)
 next_shape x m (none zeros s) (inr e) =
     let r : Run = record { first = suc m; last = suc m } in
     running r (omega arith) refl
-    (extended x m (λ p. pos (run_digit r p)) (λ p h. zeros p h ∙ ap pos (sym (run_digit_before r p (omega arith)))) (e ∙ ap pos (sym (run_digit_inside r (suc m) (omega arith) (omega arith)))))
+    (extended x m (λ p. pos (run_digit r p)) (λ p h. zeros p h ∙ ap pos (sym (run_digit_before r p (omega arith)))) (e
+    ∙ ap pos (sym (run_digit_inside r (suc m) (omega arith) (omega arith)))))
     (step_to x m (pos 0) (pos 0) (pos 1) s (zeros m (omega arith)) e)
 next_shape x m (running r o l digits s) (inl e) =
     ended r o (omega arith) (extended x m (λ p. pos (run_digit r p)) digits (e ∙ ap pos (sym (run_digit_after r (suc m) (omega arith)))))
@@ -206,11 +195,13 @@ shape x zero h = first_shape x (h 0 (omega arith))
 shape x (suc m) h = next_shape x m (shape x m (λ p l. h p (omega arith))) (h (suc m) (omega arith))
 
 -- digits with the value 2 are those of a run
-run_of_value : (x : ℕ → ℤ) (m : ℕ) → ((p : ℕ) → p ≤ m → IsDigit (x p)) → steps x m +ℤ x m *ℤ x m ≡ pos 2 → (r : Run) × IsRunWithin (suc m) r × ((p : ℕ) → p ≤ m → x p ≡ pos (run_digit r p))
+run_of_value : (x : ℕ → ℤ) (m : ℕ) → ((p : ℕ) → p ≤ m → IsDigit (x p)) → steps x m +ℤ x m *ℤ x m ≡ pos 2
+    → (r : Run) × IsRunWithin (suc m) r × ((p : ℕ) → p ≤ m → x p ≡ pos (run_digit r p))
 run_of_value x m digits value = by (shape x m digits)
   where
     by : Shape x m → (r : Run) × IsRunWithin (suc m) r × ((p : ℕ) → p ≤ m → x p ≡ pos (run_digit r p))
-    by (none zeros s) = absurd (let e : pos 0 +ℤ pos 0 *ℤ pos 0 ≡ pos 2 = sym (ap₂ (λ (s : ℤ) (z : ℤ). s +ℤ z *ℤ z) s (zeros m (omega arith))) ∙ value in omega (arith, ints))
+    by (none zeros s) =
+        absurd (let e : pos 0 +ℤ pos 0 *ℤ pos 0 ≡ pos 2 = sym (ap₂ (λ (s : ℤ) (z : ℤ). s +ℤ z *ℤ z) s (zeros m (omega arith))) ∙ value in omega (arith, ints))
     by (running r o l ones s) = (r, record { ordered = o; inside = omega arith }, ones)
     by (ended r o l ones s) = (r, record { ordered = o; inside = omega arith }, ones)
     by (more h) = absurd (let q : pos 0 ≤ℤ (x m *ℤ x m) = nonneg_square (x m) in omega (arith, linear))
@@ -239,11 +230,8 @@ data Where (r : Run) (m : ℕ) : Type 0 where
   after : r.last < m → Where r m
 
 where_is : (r : Run) (m : ℕ) → Where r m
-where_is r m = by (order (suc m) r.first) (order m r.last)
+where_is r m = by (three_ways (suc m) r.first) (three_ways m r.last)
   where
-    order : (a b : ℕ) → (a < b) ⊎ ((a ≡ b) ⊎ (b < a))
-    order a b = grind arith
-
     by : ((suc m < r.first) ⊎ ((suc m ≡ r.first) ⊎ (r.first < suc m))) → ((m < r.last) ⊎ ((m ≡ r.last) ⊎ (r.last < m))) → Where r m
     by (inl h) k = before h
     by (inr (inl h)) k = begins h
@@ -253,38 +241,37 @@ where_is r m = by (order (suc m) r.first) (order m r.last)
 
 seen_more : (r : Run) (m : ℕ) → r.first ≤ r.last → Where r m → steps (digits_of r) m ≡ ends_seen r m → steps (digits_of r) (suc m) ≡ ends_seen r (suc m)
 seen_more r m o (before h) s =
-    step_to (digits_of r) m (pos 0) (pos 0) (pos 0) (s ∙ seen_before r m (omega arith)) (ap pos (run_digit_before r m (omega arith))) (ap pos (run_digit_before r (suc m) h))
+    step_to (digits_of r) m (pos 0) (pos 0) (pos 0) (s
+    ∙ seen_before r m (omega arith)) (ap pos (run_digit_before r m (omega arith))) (ap pos (run_digit_before r (suc m) h))
     ∙ sym (seen_before r (suc m) h)
 seen_more r m o (begins h) s =
-    step_to (digits_of r) m (pos 0) (pos 0) (pos 1) (s ∙ seen_before r m (omega arith)) (ap pos (run_digit_before r m (omega arith))) (ap pos (run_digit_inside r (suc m) (omega arith) (omega arith)))
+    step_to (digits_of r) m (pos 0) (pos 0) (pos 1) (s
+    ∙ seen_before r m (omega arith)) (ap pos (run_digit_before r m (omega arith))) (ap pos (run_digit_inside r (suc m) (omega arith) (omega arith)))
     ∙ sym (seen_inside r (suc m) (omega arith) (omega arith))
 seen_more r m o (inside h k) s =
-    step_to (digits_of r) m (pos 1) (pos 1) (pos 1) (s ∙ seen_inside r m h (omega arith)) (ap pos (run_digit_inside r m h (omega arith))) (ap pos (run_digit_inside r (suc m) (omega arith) k))
+    step_to (digits_of r) m (pos 1) (pos 1) (pos 1) (s
+    ∙ seen_inside r m h (omega arith)) (ap pos (run_digit_inside r m h (omega arith))) (ap pos (run_digit_inside r (suc m) (omega arith) k))
     ∙ sym (seen_inside r (suc m) (omega arith) k)
 seen_more r m o (ends h k) s =
-    step_to (digits_of r) m (pos 1) (pos 1) (pos 0) (s ∙ seen_inside r m h (omega arith)) (ap pos (run_digit_inside r m h (omega arith))) (ap pos (run_digit_after r (suc m) (omega arith)))
+    step_to (digits_of r) m (pos 1) (pos 1) (pos 0) (s
+    ∙ seen_inside r m h (omega arith)) (ap pos (run_digit_inside r m h (omega arith))) (ap pos (run_digit_after r (suc m) (omega arith)))
     ∙ sym (seen_after r (suc m) o (omega arith))
 seen_more r m o (after k) s =
     step_to (digits_of r) m (pos 2) (pos 0) (pos 0) (s ∙ seen_after r m o k) (ap pos (run_digit_after r m k)) (ap pos (run_digit_after r (suc m) (omega arith)))
     ∙ sym (seen_after r (suc m) o (omega arith))
 
 steps_of_run : (r : Run) (m : ℕ) → r.first ≤ r.last → steps (digits_of r) m ≡ ends_seen r m
-steps_of_run r zero o = by (zero_or_more r.first)
+steps_of_run r zero o = by (zero_or_some r.first)
   where
-    zero_or_more : (n : ℕ) → (n ≡ 0) ⊎ (0 < n)
-    zero_or_more n = grind arith
-
     by : ((r.first ≡ 0) ⊎ (0 < r.first)) → steps (digits_of r) 0 ≡ ends_seen r 0
-    by (inl e) = steps-zero (digits_of r) ∙ ap (λ (n : ℕ). pos n *ℤ pos n) (run_digit_inside r 0 (omega arith) (omega arith)) ∙ sym (seen_inside r 0 (omega arith) (omega arith))
+    by (inl e) = steps-zero (digits_of r) ∙ ap (λ (n : ℕ). pos n *ℤ pos n) (run_digit_inside r 0 (omega arith) (omega arith))
+        ∙ sym (seen_inside r 0 (omega arith) (omega arith))
     by (inr l) = steps-zero (digits_of r) ∙ ap (λ (n : ℕ). pos n *ℤ pos n) (run_digit_before r 0 l) ∙ sym (seen_before r 0 l)
 steps_of_run r (suc m) o = seen_more r m o (where_is r m) (steps_of_run r m o)
 
 value_of_run : (r : Run) (m : ℕ) → IsRunWithin (suc m) r → form (suc m) chain (digits_of r) ≡ pos 2
-value_of_run r m within = value_is m (digits_of r) ∙ by (order r.last m)
+value_of_run r m within = value_is m (digits_of r) ∙ by (below_or_not r.last m)
   where
-    order : (a b : ℕ) → (a < b) ⊎ (b ≤ a)
-    order a b = grind arith
-
     by : ((r.last < m) ⊎ (m ≤ r.last)) → steps (digits_of r) m +ℤ digits_of r m *ℤ digits_of r m ≡ pos 2
     by (inl l) = ap₂ (λ (s : ℤ) (z : ℤ). s +ℤ z *ℤ z) (steps_of_run r m within.ordered ∙ seen_after r m within.ordered l) (ap pos (run_digit_after r m l))
     by (inr l) =
@@ -298,15 +285,28 @@ coordinate_of_run n r p l = ap pos (run_vector_at n r p l)
 run_attains : (m : ℕ) (x : List ℕ) → IsStartVector (suc m) x → Attains (suc m) chain (pos 2) x
 run_attains m x (r, within, e) = record {
   size = ap length e ∙ length-run_vector (suc m) r;
-  nonzero = (r.first, omega (arith, within.ordered, within.inside), λ z. let one : coordinate x r.first ≡ pos 1 = ap (λ (x : List ℕ). coordinate x r.first) e ∙ coordinate_of_run (suc m) r r.first (omega (arith, within.ordered, within.inside)) ∙ ap pos (run_digit_inside r r.first (omega arith) within.ordered) in omega (arith, ints));
-  value = ap (λ (x : List ℕ). form (suc m) chain (coordinate x)) e ∙ form_same (suc m) chain chain (coordinate (run_vector (suc m) r)) (digits_of r) (λ i j li lj. refl) (coordinate_of_run (suc m) r) ∙ value_of_run r m within;
+  nonzero = (
+    r.first,
+    omega (arith, within.ordered, within.inside),
+    λ z. let one : coordinate x r.first ≡ pos 1 = ap (λ (x : List ℕ). coordinate x r.first) e
+        ∙ coordinate_of_run (suc m) r r.first (omega (arith, within.ordered, within.inside))
+        ∙ ap pos (run_digit_inside r r.first (omega arith) within.ordered) in omega (arith, ints),
+  );
+  value = ap (λ (x : List ℕ). form (suc m) chain (coordinate x)) e
+      ∙ form_same (suc m) chain chain (coordinate (run_vector (suc m) r)) (digits_of r) (λ i j li lj. refl) (coordinate_of_run (suc m) r)
+      ∙ value_of_run r m within;
 }
 
 attains_run : (m : ℕ) (x : List ℕ) → Attains (suc m) chain (pos 2) x → IsStartVector (suc m) x
 attains_run m x h =
     let value : steps (coordinate x) m +ℤ coordinate x m *ℤ coordinate x m ≡ pos 2 = sym (value_is m (coordinate x)) ∙ h.value in
-    let r = run_of_value (coordinate x) m (λ p l. digit (slice_index_or x p 0) (subst (λ (z : ℤ). (coordinate x p +ℤ coordinate x p) ≤ℤ z) value (value_over (coordinate x) m p l))) value in
-    (r.0, r.1, vector_decided (suc m) x (run_vector (suc m) r.0) h.size (length-run_vector (suc m) r.0) (λ p l. r.2 p (omega arith) ∙ sym (coordinate_of_run (suc m) r.0 p l)))
+    let r = run_of_value (coordinate x) m
+    (λ p l. digit (slice_index_or x p 0) (subst (λ (z : ℤ). (coordinate x p +ℤ coordinate x p) ≤ℤ z) value (value_over (coordinate x) m p l))) value in (
+      r.0,
+      r.1,
+      vector_decided (suc m) x (run_vector (suc m) r.0) h.size (length-run_vector (suc m) r.0) (λ p l. r.2 p (omega arith)
+          ∙ sym (coordinate_of_run (suc m) r.0 p l)),
+    )
   where
     digit : (n : ℕ) → (pos n +ℤ pos n) ≤ℤ pos 2 → IsDigit (pos n)
     digit zero h = inl refl
@@ -327,7 +327,8 @@ chain_minimum m = record {
   where
     least : (x : List ℕ) (p : ℕ) → p < suc m → coordinate x p ≢ pos 0 → pos 2 ≤ℤ form (suc m) chain (coordinate x)
     least x p l ne =
-        let h : (coordinate x p +ℤ coordinate x p) ≤ℤ (steps (coordinate x) m +ℤ coordinate x m *ℤ coordinate x m) = value_over (coordinate x) m p (omega arith) in
+        let h : (coordinate x p +ℤ coordinate x p) ≤ℤ (steps (coordinate x) m +ℤ coordinate x m *ℤ coordinate x m) =
+        value_over (coordinate x) m p (omega arith) in
         rw (value_is m (coordinate x)) (over (slice_index_or x p 0) (steps (coordinate x) m +ℤ coordinate x m *ℤ coordinate x m) ne h)
       where
         over : (n : ℕ) (v : ℤ) → pos n ≢ pos 0 → (pos n +ℤ pos n) ≤ℤ v → pos 2 ≤ℤ v
@@ -343,14 +344,14 @@ chain_below : (n i j : ℕ) → n ≢ 1 → j ≤ i → first_entry n (place i j
 chain_below n i j ne h = grind arith
 
 chain_entry : (n i j : ℕ) → n ≢ 1 → i < n → j < n → chain i j ≡ entry (first_matrix n) i j
-chain_entry n i j ne li lj = by (order i j)
+chain_entry n i j ne li lj = by (at_least_or_at_most i j)
   where
-    order : (i j : ℕ) → (j ≤ i) ⊎ (i ≤ j)
-    order i j = grind arith
-
     by : ((j ≤ i) ⊎ (i ≤ j)) → chain i j ≡ entry (first_matrix n) i j
     by (inl h) = sym (first_entry_below n i j h li ∙ chain_below n i j ne h)
     by (inr h) = chain_symmetric i j ∙ sym (entry_flip (first_matrix n) i j ∙ first_entry_below n j i h lj ∙ chain_below n j i ne h)
+
+pub first_minimum_two : (n : ℕ) → n ≢ 1 → first_minimum n ≡ pos 2
+first_minimum_two n ne = grind arith
 
 pub first_is_minimum : (n : ℕ) → 1 ≤ n → IsMinimum n (entry (first_matrix n)) (first_minimum n) (start_list n)
 first_is_minimum zero h = absurd (omega arith)
@@ -363,17 +364,17 @@ first_is_minimum (suc zero) h =
     twice zero (suc j) li lj = absurd (omega arith)
     twice (suc i) j li lj = absurd (omega arith)
 first_is_minimum (suc (suc m)) h =
-    subst (λ (z : ℤ). IsMinimum (suc (suc m)) (entry (first_matrix (suc (suc m)))) z (start_list (suc (suc m)))) (sym (two (suc (suc m)) (omega arith)))
-    (minimum_same (suc (suc m)) chain (entry (first_matrix (suc (suc m)))) (pos 2) (start_list (suc (suc m))) (λ i j li lj. chain_entry (suc (suc m)) i j (omega arith) li lj) (chain_minimum (suc m)))
-  where
-    two : (n : ℕ) → n ≢ 1 → first_minimum n ≡ pos 2
-    two n ne = grind arith
+    subst (λ (z : ℤ). IsMinimum (suc (suc m)) (entry (first_matrix (suc (suc m)))) z (start_list (suc (suc m))))
+    (sym (first_minimum_two (suc (suc m)) (omega arith)))
+    (minimum_same (suc (suc m)) chain (entry (first_matrix (suc (suc m)))) (pos 2) (start_list (suc (suc m)))
+    (λ i j li lj. chain_entry (suc (suc m)) i j (omega arith) li lj) (chain_minimum (suc m)))
 
 -- ---- the start vectors are perfect
 pub start_list_is_perfect : (n : ℕ) → IsPerfect n (start_list n)
 unfolding whole
 start_list_is_perfect n =
-    perfect_from_units n (start_list n) (λ a b. start_coordinates n (unit_sum a b) 1) (λ a b la lb. start_coordinates_write n (unit_sum a b) 1 (omega arith) (λ i j li lj. mirror (mark_ℤ a i) (mark_ℤ b j) (mark_ℤ b i) (mark_ℤ a j)))
+    perfect_from_units n (start_list n) (λ a b. start_coordinates n (unit_sum a b) 1)
+    (λ a b la lb. start_coordinates_write n (unit_sum a b) 1 (omega arith) (λ i j li lj. mirror (mark_ℤ a i) (mark_ℤ b j) (mark_ℤ b i) (mark_ℤ a j)))
   where
     mirror : (p q r s : ℤ) → p *ℤ q +ℤ r *ℤ s ≡ s *ℤ r +ℤ q *ℤ p
     mirror p q r s = simp expand (omega (arith, linear))
@@ -382,7 +383,8 @@ start_list_is_perfect n =
 abbrev pub row_front : ℕ → ℕ → ℕ → List ℤ
 row_front n i k = map (first_entry n) (map (place i) (range_with_len 0 k))
 
-pub row_front_more : (n i k : ℕ) (front new : List ℤ) (z : ℤ) → new ≡ (front ++ row_front n i k) ++ z ∷ [] → z ≡ first_entry n (place i k) → new ≡ front ++ row_front n i (k + 1)
+pub row_front_more : (n i k : ℕ) (front new : List ℤ) (z : ℤ) → new ≡ (front ++ row_front n i k) ++ z ∷ [] → z ≡ first_entry n (place i k)
+    → new ≡ front ++ row_front n i (k + 1)
 row_front_more n i k front new z e f =
     e ∙ append_assoc front (row_front n i k) (z ∷ [])
     ∙ ap (λ (zs : List ℤ). front ++ zs)
@@ -393,9 +395,17 @@ pub row_front_whole : (n i k : ℕ) → k ≡ i + 1 → row_front n i k ≡ map 
 unfolding row_places
 row_front_whole n i k e = ap (row_front n i) e
 
-pub rows_more : (n i : ℕ) (rows new : List ℤ) → rows ≡ map (first_entry n) (triangle_places i) → new ≡ rows ++ map (first_entry n) (row_places i) → new ≡ map (first_entry n) (triangle_places (i + 1))
+pub rows_more : (n i : ℕ) (rows new : List ℤ) → rows ≡ map (first_entry n) (triangle_places i) → new ≡ rows ++ map (first_entry n) (row_places i)
+    → new ≡ map (first_entry n) (triangle_places (i + 1))
 rows_more n i rows new e f =
-    f ∙ ap (λ (zs : List ℤ). zs ++ map (first_entry n) (row_places i)) e ∙ sym (map-append (first_entry n) (triangle_places i) (row_places i)) ∙ ap (map (first_entry n)) (sym (triangle_places_more i))
+    f ∙ ap (λ (zs : List ℤ). zs ++ map (first_entry n) (row_places i)) e ∙ sym (map-append (first_entry n) (triangle_places i) (row_places i))
+    ∙ ap (map (first_entry n)) (sym (triangle_places_more i))
+
+pub first_minimum_cases : (n : ℕ) → (first_minimum n ≡ pos 1) ⊎ (first_minimum n ≡ pos 2)
+first_minimum_cases n = grind arith
+
+pub first_entry_cases : (n : ℕ) (c : Place) → (first_entry n c ≡ first_minimum n) ⊎ ((first_entry n c ≡ negsuc 0) ⊎ (first_entry n c ≡ pos 0))
+first_entry_cases n c = grind arith
 
 pub first_lower : (n : ℕ) (zs : List ℤ) → zs ≡ map (first_entry n) (triangle_places n) → IsLower n zs
 first_lower n zs e = rw e record {
@@ -404,12 +414,6 @@ first_lower n zs e = rw e record {
       (get_or-map (first_entry n) (triangle_places n) k (place 0 0) (pos 0) (omega (arith, length-map (triangle_places n) (first_entry n))));
 }
   where
-    least : (n : ℕ) → (first_minimum n ≡ pos 1) ⊎ (first_minimum n ≡ pos 2)
-    least n = grind arith
-
-    entries : (c : Place) → (first_entry n c ≡ first_minimum n) ⊎ ((first_entry n c ≡ negsuc 0) ⊎ (first_entry n c ≡ pos 0))
-    entries c = grind arith
-
     fits : (z : ℤ) → ((z ≡ pos 1) ⊎ (z ≡ pos 2)) ⊎ ((z ≡ negsuc 0) ⊎ (z ≡ pos 0)) → FitsInt z
     fits z (inl (inl e)) = rw e (omega arith)
     fits z (inl (inr e)) = rw e (omega arith)
@@ -417,9 +421,10 @@ first_lower n zs e = rw e record {
     fits z (inr (inr e)) = rw e (omega arith)
 
     small : (c : Place) (z : ℤ) → z ≡ first_entry n c → FitsInt z
-    small c z e = by (entries c) (least n)
+    small c z e = by (first_entry_cases n c) (first_minimum_cases n)
       where
-        by : ((first_entry n c ≡ first_minimum n) ⊎ ((first_entry n c ≡ negsuc 0) ⊎ (first_entry n c ≡ pos 0))) → ((first_minimum n ≡ pos 1) ⊎ (first_minimum n ≡ pos 2)) → FitsInt z
+        by : ((first_entry n c ≡ first_minimum n) ⊎ ((first_entry n c ≡ negsuc 0) ⊎ (first_entry n c ≡ pos 0)))
+            → ((first_minimum n ≡ pos 1) ⊎ (first_minimum n ≡ pos 2)) → FitsInt z
         by (inl f) (inl g) = fits z (inl (inl (e ∙ f ∙ g)))
         by (inl f) (inr g) = fits z (inl (inr (e ∙ f ∙ g)))
         by (inr (inl f)) g = fits z (inr (inl (e ∙ f)))

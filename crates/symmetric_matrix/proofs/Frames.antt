@@ -2,6 +2,7 @@
 use Rattle.std.specs.Prelude.{◌≡◌, ℕ, ◌+◌, ◌-◌, ◌<◌, ◌≤◌, ◌⊎◌, ◌&&◌, nat_lt, nat_le, if◌then◌else◌, Bool, true, false, ℤ, pos, ◌*ℤ◌}
 use Rattle.std.proofs.Common.{arith, sym, ◌∙◌, ap, ap₂, refl, inl, inr}
 use Rattle.commutative_ring.proofs.Laws.{mul_zero_ℤ, zero_mul_ℤ}
+use Rattle.commutative_ring.proofs.SmallCases.{three_ways}
 use Rattle.symmetric_matrix.specs.StartVectors.{Run, run_digit, IsRunWithin}
 use Rattle.symmetric_matrix.specs.StartWeights.{framed}
 
@@ -26,14 +27,16 @@ framed_beyond none n q i j h = ap (λ (b : Bool). if b then q (i - 1) (j - 1) el
     fails : (j : ℕ) → n < j → (nat_lt 0 i && nat_le i n && (nat_lt 0 j && nat_le j n)) ≡ false
     fails j h = grind arith
 
-pub framed_same : {A : Type 0} (none : A) (n : ℕ) (p q : ℕ → ℕ → A) → ((i j : ℕ) → i < n → j < n → p i j ≡ q i j) → (i j : ℕ) → framed none n p i j ≡ framed none n q i j
+pub framed_same : {A : Type 0} (none : A) (n : ℕ) (p q : ℕ → ℕ → A) → ((i j : ℕ) → i < n → j < n → p i j ≡ q i j) → (i j : ℕ)
+    → framed none n p i j ≡ framed none n q i j
 unfolding framed
 framed_same none n p q h i j = by (nat_lt 0 i && nat_le i n && (nat_lt 0 j && nat_le j n)) refl
   where
     bounds : (nat_lt 0 i && nat_le i n && (nat_lt 0 j && nat_le j n)) ≡ true → (i - 1 < n) × (j - 1 < n)
     bounds h = grind arith
 
-    by : (b : Bool) → (nat_lt 0 i && nat_le i n && (nat_lt 0 j && nat_le j n)) ≡ b → (if b then p (i - 1) (j - 1) else none) ≡ (if b then q (i - 1) (j - 1) else none)
+    by : (b : Bool) → (nat_lt 0 i && nat_le i n && (nat_lt 0 j && nat_le j n)) ≡ b
+        → (if b then p (i - 1) (j - 1) else none) ≡ (if b then q (i - 1) (j - 1) else none)
     by true e = let k = bounds e in h (i - 1) (j - 1) k.0 k.1
     by false e = refl
 
@@ -112,11 +115,8 @@ padded_run n s i within = by (nat_lt 0 i && nat_le i n) refl
 -- of two runs, some edge of one does not show in the other
 pub edges_apart : (n : ℕ) (r s : Run) → IsRunWithin n r → ((r.first ≡ s.first) → (r.last ≡ s.last) → ⊥)
     → (edge s (r.first + 1) ≡ edge s r.first) ⊎ (edge s (r.last + 1) ≡ edge s (r.last + 2))
-edges_apart n r s within apart = by (order r.first s.first) (order r.last s.last) (order r.first (s.last + 1))
+edges_apart n r s within apart = by (three_ways r.first s.first) (three_ways r.last s.last) (three_ways r.first (s.last + 1))
   where
-    order : (a b : ℕ) → (a < b) ⊎ ((a ≡ b) ⊎ (b < a))
-    order a b = grind arith
-
     after : s.last + 1 ≤ r.first → edge s (r.last + 1) ≡ edge s (r.last + 2)
     after h = edge_after s (r.last + 1) (omega (arith, within.ordered)) ∙ sym (edge_after s (r.last + 2) (omega (arith, within.ordered)))
 
@@ -124,7 +124,9 @@ edges_apart n r s within apart = by (order r.first s.first) (order r.last s.last
         → ((r.first < s.last + 1) ⊎ ((r.first ≡ s.last + 1) ⊎ (s.last + 1 < r.first)))
         → (edge s (r.first + 1) ≡ edge s r.first) ⊎ (edge s (r.last + 1) ≡ edge s (r.last + 2))
     by (inl a) b c = inl (edge_before s (r.first + 1) (omega arith) ∙ sym (edge_before s r.first (omega arith)))
-    by (inr (inl e)) (inl b) c = inr (edge_inside s (r.last + 1) (omega (arith, within.ordered)) (omega arith) ∙ sym (edge_inside s (r.last + 2) (omega (arith, within.ordered)) (omega arith)))
+    by (inr (inl e)) (inl b) c =
+        inr (edge_inside s (r.last + 1) (omega (arith, within.ordered)) (omega arith)
+        ∙ sym (edge_inside s (r.last + 2) (omega (arith, within.ordered)) (omega arith)))
     by (inr (inl e)) (inr (inl f)) c = absurd (apart e f)
     by (inr (inl e)) (inr (inr b)) c = inr (edge_after s (r.last + 1) (omega arith) ∙ sym (edge_after s (r.last + 2) (omega arith)))
     by (inr (inr a)) b (inl c) = inl (edge_inside s (r.first + 1) (omega arith) (omega arith) ∙ sym (edge_inside s r.first (omega arith) (omega arith)))

@@ -2,7 +2,8 @@
 use Rattle.std.specs.Prelude.{◌≡◌, ℕ, ◌+◌, ◌<◌, ◌≤◌, ℤ, pos, ◌+ℤ◌, ◌*ℤ◌, List, [], ◌∷◌, length, map, drop, slice_index_or, Ok, Err}
 use Rattle.std.proofs.Common.{arith, sym, ◌∙◌, ap, ap₂, refl}
 use Rattle.std.proofs.lemmas.List.{length-map, get_or-map}
-use Rattle.commutative_ring.proofs.Ring.{int_ring, ring, ◌⊗◌, v0, v1, v2}
+use Rattle.commutative_ring.proofs.Ring.{int_ring}
+use Rattle.commutative_ring.proofs.Laws.{mul_left_comm_ℤ}
 use Rattle.exact_forms.specs.Triangles.{triangle}
 use Rattle.exact_forms.specs.Forms.{inner}
 use Rattle.exact_forms.proofs.Forms.{inner_is}
@@ -27,14 +28,16 @@ pub length-inner_products : (n : ℕ) (lower other : List ℤ) → length (inner
 unfolding inner_products
 length-inner_products n lower other = length-map (triangle_places n) (inner_product (symmetric_of n lower) (symmetric_of n other)) ∙ length-triangle_places n
 
-inner_product_at : (n : ℕ) (lower other : List ℤ) (k i j : ℕ) (q m t : ℤ) (d : Product) → length lower ≡ triangle n → k ≡ triangle i + j → j ≤ i → k < length lower
+inner_product_at : (n : ℕ) (lower other : List ℤ) (k i j : ℕ) (q m t : ℤ) (d : Product) → length lower ≡ triangle n → k ≡ triangle i + j → j ≤ i
+    → k < length lower
     → q ≡ slice_index_or lower k (pos 0) → t ≡ slice_index_or other k (pos 0) → m ≡ pos (multiplicity (record { row = i; column = j }))
     → slice_index_or (inner_products n lower other) k d ≡ multiple q m t
 unfolding inner_products inner_product multiple
 inner_product_at n lower other k i j q m t d long e h l is_q is_t is_m =
     let row : i < n = in_row n i j k e (omega arith) in
     get_or-map (inner_product (symmetric_of n lower) (symmetric_of n other)) (triangle_places n) k (place 0 0) d (omega (arith, length-triangle_places n))
-    ∙ ap (inner_product (symmetric_of n lower) (symmetric_of n other)) (ap (λ (k : ℕ). slice_index_or (triangle_places n) k (place 0 0)) e ∙ triangle_place_at n i j (place 0 0) row h)
+    ∙ ap (inner_product (symmetric_of n lower) (symmetric_of n other)) (ap (λ (k : ℕ). slice_index_or (triangle_places n) k (place 0 0)) e
+    ∙ triangle_place_at n i j (place 0 0) row h)
     ∙ ap₂ (λ (a : ℤ) (b : ℤ). multiple a (pos (multiplicity (place i j))) b)
     (entry_lower (symmetric_of n lower) i j h ∙ ap (λ (k : ℕ). slice_index_or lower k (pos 0)) (sym e) ∙ sym is_q)
     (entry_lower (symmetric_of n other) i j h ∙ ap (λ (k : ℕ). slice_index_or other k (pos 0)) (sym e) ∙ sym is_t)
@@ -44,7 +47,8 @@ multiple_ops : (s q m t : ℤ) → product_ops s (multiple q m t) ≡ mul_op m t
 unfolding product_ops multiple
 multiple_ops s q m t = refl
 
-pub inner_refused : (n : ℕ) (lower other : List ℤ) (k i j : ℕ) (s q m t : ℤ) (err : IntOp) → length lower ≡ triangle n → k ≡ triangle i + j → j ≤ i → k < length lower
+pub inner_refused : (n : ℕ) (lower other : List ℤ) (k i j : ℕ) (s q m t : ℤ) (err : IntOp) → length lower ≡ triangle n → k ≡ triangle i + j → j ≤ i
+    → k < length lower
     → q ≡ slice_index_or lower k (pos 0) → t ≡ slice_index_or other k (pos 0) → m ≡ pos (multiplicity (record { row = i; column = j }))
     → answer is_owed (mul_op m t ∷ mul_op q (m *ℤ t) ∷ add_op s (q *ℤ (m *ℤ t)) ∷ []) (s +ℤ q *ℤ (m *ℤ t)) ≡ Err err
     → sum_answer (drop k (inner_products n lower other)) s ≡ Err err
@@ -64,24 +68,25 @@ inner_continues n lower other k i j s q m t z long e h l is_q is_t is_m done =
     (inner_product_at n lower other k i j q m t (multiple q m t) long e h l is_q is_t is_m)
     (ap (λ (ops : List IntOp). answer is_owed ops (s +ℤ q *ℤ (m *ℤ t))) (multiple_ops s q m t) ∙ done)
 
-pub inner_ends : (n : ℕ) (lower other : List ℤ) (k : ℕ) (s : ℤ) → length lower ≡ triangle n → length lower ≤ k → sum_answer (drop k (inner_products n lower other)) s ≡ Ok s
+pub inner_ends : (n : ℕ) (lower other : List ℤ) (k : ℕ) (s : ℤ) → length lower ≡ triangle n → length lower ≤ k
+    → sum_answer (drop k (inner_products n lower other)) s ≡ Ok s
 inner_ends n lower other k s long h = sum_ends (inner_products n lower other) k s (omega (arith, length-inner_products n lower other))
 
 -- the products come to the double sum
-inner_value : (n : ℕ) (lower other : List ℤ) → list_sum int_ring product_of (inner_products n lower other) ≡ inner n (entry (symmetric_of n lower)) (entry (symmetric_of n other))
+inner_value : (n : ℕ) (lower other : List ℤ)
+    → list_sum int_ring product_of (inner_products n lower other) ≡ inner n (entry (symmetric_of n lower)) (entry (symmetric_of n other))
 unfolding inner_products inner_product
 inner_value n lower other =
     let g : ℕ → ℕ → ℤ = λ (i : ℕ) (j : ℕ). entry (symmetric_of n lower) i j *ℤ entry (symmetric_of n other) i j in
     list_sum_of_map (inner_product (symmetric_of n lower) (symmetric_of n other)) (triangle_places n)
     ∙ list_sum_same int_ring _ (λ p. pos (multiplicity p) *ℤ g p.row p.column) (triangle_places n)
-    (λ p. moved (entry (symmetric_of n lower) p.row p.column) (pos (multiplicity p)) (entry (symmetric_of n other) p.row p.column))
+    (λ p. mul_left_comm_ℤ (entry (symmetric_of n lower) p.row p.column) (pos (multiplicity p)) (entry (symmetric_of n other) p.row p.column))
     ∙ sum_by_places n g (λ i j hi hj. ap₂ (λ (a : ℤ) (b : ℤ). a *ℤ b) (entry_flip (symmetric_of n lower) i j) (entry_flip (symmetric_of n other) i j))
     ∙ sym (inner_is n (entry (symmetric_of n lower)) (entry (symmetric_of n other)))
-  where
-    moved : (q m t : ℤ) → q *ℤ (m *ℤ t) ≡ m *ℤ (q *ℤ t)
-    moved q m t = ring (q ∷ m ∷ t ∷ []) (v0 ⊗ (v1 ⊗ v2)) (v1 ⊗ (v0 ⊗ v2)) refl
 
 pub inner_answer_is : (n : ℕ) (lower other : List ℤ)
-    → sum_answer (inner_products n lower other) (pos 0) ≡ answer is_owed (inner_ops (symmetric_of n lower) (symmetric_of n other)) (inner n (entry (symmetric_of n lower)) (entry (symmetric_of n other)))
+    → sum_answer (inner_products n lower other) (pos 0)
+    ≡ answer is_owed (inner_ops (symmetric_of n lower) (symmetric_of n other)) (inner n (entry (symmetric_of n lower)) (entry (symmetric_of n other)))
 unfolding inner_products inner_ops
-inner_answer_is n lower other = sum_answer_is (inner_products n lower other) (inner n (entry (symmetric_of n lower)) (entry (symmetric_of n other))) (inner_value n lower other)
+inner_answer_is n lower other =
+    sum_answer_is (inner_products n lower other) (inner n (entry (symmetric_of n lower)) (entry (symmetric_of n other))) (inner_value n lower other)

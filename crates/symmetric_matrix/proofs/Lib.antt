@@ -1,3 +1,4 @@
+pub mod Narrow
 pub mod Owed
 pub mod Places
 pub mod Lists
@@ -14,3 +15,4 @@ pub mod BinaryDivisors
 pub mod Combinations
 pub mod Primitives
 pub mod FirstMatrix
+pub mod SmallLower

@@ -8,8 +8,10 @@ use Rattle.std.specs.Cmp.{nat_cmp_is}
 use Rattle.std.specs.Cmp.Lexicographic.{slice_cmp}
 use Rattle.std.specs.declared.cmp.Ordering.{Ordering}
 use Rattle.std.specs.declared.cmp.Ordering.TheVariants.{Less, Equal, Greater}
+use Rattle.commutative_ring.proofs.SmallCases.{before_or_here}
 use Rattle.exact_forms.specs.Vectors.{ComesBefore}
-use Rattle.exact_forms.proofs.Vectors.{Compared, before, same, after, before_total, before_irreflexive, before_asymmetric, before_transitive, increasing_push, increasing_places}
+use Rattle.exact_forms.proofs.Vectors.{Compared, before, same, after, before_total, before_irreflexive, before_asymmetric, before_transitive, increasing_push}
+use Rattle.exact_forms.proofs.Vectors.{increasing_places}
 use Rattle.symmetric_matrix.specs.Lists.{IsVectorList, CanFollow}
 
 -- the first place where two vectors differ decides their order
@@ -21,14 +23,12 @@ comes_before_at (a ∷ x) (b ∷ y) zero lx ly agree less = inl less
 comes_before_at (a ∷ x) (b ∷ y) (suc p) lx ly agree less =
     inr (agree 0 (omega arith), comes_before_at x y p (omega arith) (omega arith) (λ k l. agree (suc k) (omega arith)) less)
 
-below_or_last : (k n : ℕ) → k < n + 1 → (k < n) ⊎ (k ≡ n)
-below_or_last k n l = grind arith
-
 -- a vector that can follow keeps the list
 pub list_push : (xs : List (List ℕ)) (x : List ℕ) → IsVectorList xs → CanFollow xs x → IsVectorList (xs ++ x ∷ [])
 list_push xs x list follows = record {
-  one_length = λ k l hk hl. as_long k (below_or_last k (length xs) (omega (arith, length_push xs x))) ∙ sym (as_long l (below_or_last l (length xs) (omega (arith, length_push xs x))));
-  increasing = increasing_push xs x list.increasing (λ z c. earlier z c (below_or_last (c.0 + 1) (length xs) (let l = c.1 in omega arith)));
+  one_length = λ k l hk hl. as_long k (before_or_here k (length xs) (omega (arith, length_push xs x)))
+      ∙ sym (as_long l (before_or_here l (length xs) (omega (arith, length_push xs x))));
+  increasing = increasing_push xs x list.increasing (λ z c. earlier z c (before_or_here (c.0 + 1) (length xs) (let l = c.1 in omega arith)));
 }
   where
     as_long : (k : ℕ) → ((k < length xs) ⊎ (k ≡ length xs)) → length (slice_index_or (xs ++ x ∷ []) k []) ≡ length x

@@ -8,7 +8,8 @@ unfolding answer
 answer_nothing owed v = refl
 
 -- a list that refuses, refuses with whatever follows it
-pub answer-append_err : {O U V : Type 0} (owed : O → Bool) (xs ys : List O) (u : U) (v : V) (err : O) → answer owed xs u ≡ Err err → answer owed (xs ++ ys) v ≡ Err err
+pub answer-append_err : {O U V : Type 0} (owed : O → Bool) (xs ys : List O) (u : U) (v : V) (err : O) → answer owed xs u ≡ Err err
+    → answer owed (xs ++ ys) v ≡ Err err
 unfolding answer
 answer-append_err owed [] ys u v err h = absurd cc
 answer-append_err {O} {U} {V} owed (op ∷ xs) ys u v err h = by (owed op) h (answer-append_err owed xs ys u v err)
@@ -19,7 +20,8 @@ answer-append_err {O} {U} {V} owed (op ∷ xs) ys u v err h = by (owed op) h (an
     by false h rec = rec h
 
 -- a list that does not, leaves the answer to what follows it, and gives its value
-pub answer-append_ok : {O U V : Type 0} (owed : O → Bool) (xs ys : List O) (u z : U) (v : V) → answer owed xs u ≡ Ok z → (answer owed (xs ++ ys) v ≡ answer owed ys v) × (u ≡ z)
+pub answer-append_ok : {O U V : Type 0} (owed : O → Bool) (xs ys : List O) (u z : U) (v : V) → answer owed xs u ≡ Ok z
+    → (answer owed (xs ++ ys) v ≡ answer owed ys v) × (u ≡ z)
 unfolding answer
 answer-append_ok owed [] ys u z v h = (refl, cc)
 answer-append_ok {O} {U} {V} owed (op ∷ xs) ys u z v h = by (owed op) h (answer-append_ok owed xs ys u z v)
@@ -30,7 +32,8 @@ answer-append_ok {O} {U} {V} owed (op ∷ xs) ys u z v h = by (owed op) h (answe
     by false h rec = rec h
 
 -- operations that are given a place
-pub answer-map_err : {O Q U V : Type 0} (owed : O → Bool) (owed' : Q → Bool) (tag : O → Q) (xs : List O) (u : U) (v : V) (err : O) → ((o : O) → owed' (tag o) ≡ owed o)
+pub answer-map_err : {O Q U V : Type 0} (owed : O → Bool) (owed' : Q → Bool) (tag : O → Q) (xs : List O) (u : U) (v : V) (err : O)
+    → ((o : O) → owed' (tag o) ≡ owed o)
     → answer owed xs u ≡ Err err → answer owed' (map tag xs) v ≡ Err (tag err)
 unfolding answer
 answer-map_err owed owed' tag [] u v err same h = absurd cc
@@ -68,7 +71,8 @@ answer_tagged {O} {Q} {V} owed owed' tag (op ∷ xs) v same =
     by false h = h
 
 -- ---- the first owed operation
-pub answer_is_first_owed : {O V : Type 0} (owed : O → Bool) (ops : List O) (v : V) → answer owed ops v ≡ elim (first_owed owed ops) as (λ _. Result V O) [ None ↦ Ok v | Some op ↦ Err op ]
+pub answer_is_first_owed : {O V : Type 0} (owed : O → Bool) (ops : List O) (v : V)
+    → answer owed ops v ≡ elim (first_owed owed ops) as (λ _. Result V O) [ None ↦ Ok v | Some op ↦ Err op ]
 unfolding answer first_owed
 answer_is_first_owed owed [] v = refl
 answer_is_first_owed {O} {V} owed (op ∷ ops) v = by (owed op) (answer_is_first_owed owed ops v)
@@ -83,7 +87,8 @@ unfolding first_owed
 first_owed-append_some owed [] ys op h = absurd cc
 first_owed-append_some {O} owed (x ∷ xs) ys op h = by (owed x) h (first_owed-append_some owed xs ys op)
   where
-    by : (b : Bool) → (if b then Some x else first_owed owed xs) ≡ Some op → (first_owed owed xs ≡ Some op → first_owed owed (xs ++ ys) ≡ Some op) → (if b then Some x else first_owed owed (xs ++ ys)) ≡ Some op
+    by : (b : Bool) → (if b then Some x else first_owed owed xs) ≡ Some op → (first_owed owed xs ≡ Some op → first_owed owed (xs ++ ys) ≡ Some op)
+        → (if b then Some x else first_owed owed (xs ++ ys)) ≡ Some op
     by true h rec = h
     by false h rec = rec h
 
@@ -92,7 +97,8 @@ unfolding first_owed
 first_owed-append_none owed [] ys h = refl
 first_owed-append_none {O} owed (x ∷ xs) ys h = by (owed x) h (first_owed-append_none owed xs ys)
   where
-    by : (b : Bool) → (if b then Some x else first_owed owed xs) ≡ None → (first_owed owed xs ≡ None → first_owed owed (xs ++ ys) ≡ first_owed owed ys) → (if b then Some x else first_owed owed (xs ++ ys)) ≡ first_owed owed ys
+    by : (b : Bool) → (if b then Some x else first_owed owed xs) ≡ None → (first_owed owed xs ≡ None → first_owed owed (xs ++ ys) ≡ first_owed owed ys)
+        → (if b then Some x else first_owed owed (xs ++ ys)) ≡ first_owed owed ys
     by true h rec = absurd cc
     by false h rec = rec h
 
@@ -104,7 +110,8 @@ first_owed-map {O} {Q} owed owed' tag (x ∷ xs) same =
     ap (λ (b : Bool). if b then Some (tag x) else first_owed owed' (map tag xs)) (same x) ∙ by (owed x) (first_owed-map owed owed' tag xs same)
   where
     by : (b : Bool) → first_owed owed' (map tag xs) ≡ elim (first_owed owed xs) as (λ _. Option Q) [ None ↦ None | Some op ↦ Some (tag op) ]
-        → (if b then Some (tag x) else first_owed owed' (map tag xs)) ≡ elim (if b then Some x else first_owed owed xs) as (λ _. Option Q) [ None ↦ None | Some op ↦ Some (tag op) ]
+        → (if b then Some (tag x) else first_owed owed' (map tag xs))
+        ≡ elim (if b then Some x else first_owed owed xs) as (λ _. Option Q) [ None ↦ None | Some op ↦ Some (tag op) ]
     by true h = refl
     by false h = h
 
@@ -113,12 +120,21 @@ pub none_of_ok : {O V : Type 0} (owed : O → Bool) (ops : List O) (v z : V) →
 none_of_ok {O} {V} owed ops v z h = by (first_owed owed ops) refl
   where
     by : (o : Option O) → first_owed owed ops ≡ o → (first_owed owed ops ≡ None) × (v ≡ z)
-    by None e = (e, let k : Ok v ≡ Ok z = sym (answer_is_first_owed owed ops v ∙ ap (λ f. elim f as (λ _. Result V O) [ None ↦ Ok v | Some op ↦ Err op ]) e) ∙ h in cc)
-    by (Some op) e = absurd (let k : Err op ≡ Ok z = sym (answer_is_first_owed owed ops v ∙ ap (λ f. elim f as (λ _. Result V O) [ None ↦ Ok v | Some op ↦ Err op ]) e) ∙ h in cc)
+    by None e = (
+      e,
+      let k : Ok v ≡ Ok z = sym (answer_is_first_owed owed ops v ∙ ap (λ f. elim f as (λ _. Result V O) [ None ↦ Ok v | Some op ↦ Err op ]) e)
+          ∙ h in cc,
+    )
+    by (Some op) e =
+        absurd (let k : Err op ≡ Ok z = sym (answer_is_first_owed owed ops v ∙ ap (λ f. elim f as (λ _. Result V O) [ None ↦ Ok v | Some op ↦ Err op ]) e)
+        ∙ h in cc)
 
 pub some_of_err : {O V : Type 0} (owed : O → Bool) (ops : List O) (v : V) (err : O) → answer owed ops v ≡ Err err → first_owed owed ops ≡ Some err
 some_of_err {O} {V} owed ops v err h = by (first_owed owed ops) refl
   where
     by : (o : Option O) → first_owed owed ops ≡ o → first_owed owed ops ≡ Some err
-    by None e = absurd (let k : Ok v ≡ Err err = sym (answer_is_first_owed owed ops v ∙ ap (λ f. elim f as (λ _. Result V O) [ None ↦ Ok v | Some op ↦ Err op ]) e) ∙ h in cc)
-    by (Some op) e = e ∙ (let k : Err op ≡ Err err = sym (answer_is_first_owed owed ops v ∙ ap (λ f. elim f as (λ _. Result V O) [ None ↦ Ok v | Some op ↦ Err op ]) e) ∙ h in cc)
+    by None e = absurd (let k : Ok v ≡ Err err = sym (answer_is_first_owed owed ops v
+        ∙ ap (λ f. elim f as (λ _. Result V O) [ None ↦ Ok v | Some op ↦ Err op ]) e) ∙ h in cc)
+    by (Some op) e = e
+        ∙ (let k : Err op ≡ Err err = sym (answer_is_first_owed owed ops v ∙ ap (λ f. elim f as (λ _. Result V O) [ None ↦ Ok v | Some op ↦ Err op ]) e) ∙ h in
+        cc)

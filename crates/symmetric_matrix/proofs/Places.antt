@@ -2,6 +2,7 @@
 use Rattle.std.specs.Prelude.{◌≡◌, ℕ, zero, suc, ◌+◌, ◌-◌, ◌*◌, ◌/◌, ◌<◌, ◌≤◌, ◌⊎◌, ℤ, pos, length, slice_index_or, min, max}
 use Rattle.std.proofs.Common.{arith, sym, ◌∙◌, ap, inl, inr}
 use Rattle.std.proofs.lemmas.List.{get_or_default}
+use Rattle.commutative_ring.proofs.SmallCases.{at_least_or_at_most}
 use Rattle.exact_forms.specs.Triangles.{triangle}
 use Rattle.exact_forms.proofs.Triangles.{twice_triangle, entry_before, entry_in_below, entry_in_symmetric}
 use Rattle.symmetric_matrix.specs.Symmetric.{Symmetric, FitsInt, IsSymmetricMatrix, entry}
@@ -20,11 +21,8 @@ entry_flip q i j = entry_in_symmetric (pos 0) q.lower i j
 
 -- the entry by the larger and the smaller of its places
 pub entry_sorted : (q : Symmetric) (i j : ℕ) → entry q i j ≡ slice_index_or q.lower (triangle (max i j) + min i j) (pos 0)
-entry_sorted q i j = by (order i j)
+entry_sorted q i j = by (at_least_or_at_most i j)
   where
-    order : (i j : ℕ) → (j ≤ i) ⊎ (i ≤ j)
-    order i j = grind arith
-
     by : ((j ≤ i) ⊎ (i ≤ j)) → entry q i j ≡ slice_index_or q.lower (triangle (max i j) + min i j) (pos 0)
     by (inl h) = let a : max i j ≡ i = omega arith in let b : min i j ≡ j = omega arith in rw (a, b) (entry_lower q i j h)
     by (inr h) = let a : max i j ≡ j = omega arith in let b : min i j ≡ i = omega arith in rw (a, b) (entry_flip q i j ∙ entry_lower q j i h)

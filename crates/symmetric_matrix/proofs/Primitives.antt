@@ -41,7 +41,8 @@ parts_lower n g xs h =
 -- the parts have no common divisor but 1
 lowest_of : (xs : List ℤ) (g h : ℕ) → g ≢ 0 → IsGreatestDivisor g xs → IsGreatestDivisor h (map (λ z. divided z g) xs) → h ≡ 1
 lowest_of xs g h some whole parts =
-    eq-one_of_dvd-one (dvd_of_mul-dvd-mul_right h (positive g some) (subst (λ (m : ℕ). h * g ∣ m) (sym (one-mul g)) (whole.greatest (h * g) (λ k d l. at k d l))))
+    eq-one_of_dvd-one
+    (dvd_of_mul-dvd-mul_right h (positive g some) (subst (λ (m : ℕ). h * g ∣ m) (sym (one-mul g)) (whole.greatest (h * g) (λ k d l. at k d l))))
   where
     positive : (n : ℕ) → n ≢ 0 → 0 < n
     positive zero e = absurd (e refl)
@@ -51,12 +52,14 @@ lowest_of xs g h some whole parts =
     at k d l =
         let long : length (map (λ z. divided z g) xs) ≡ length xs = length-map xs (λ z. divided z g) in
         let part : h ∣ nat_abs (slice_index_or xs k d) / g =
-        subst (λ (n : ℕ). h ∣ n) (ap nat_abs (get_or-map (λ z. divided z g) xs k d (pos 0) l) ∙ nat_abs-divided (slice_index_or xs k d) g) (parts.divides k (pos 0) (omega (arith, long))) in
+        subst (λ (n : ℕ). h ∣ n) (ap nat_abs (get_or-map (λ z. divided z g) xs k d (pos 0) l)
+        ∙ nat_abs-divided (slice_index_or xs k d) g) (parts.divides k (pos 0) (omega (arith, long))) in
         subst (λ (n : ℕ). h * g ∣ n) (div-mul_cancel g (whole.divides k d l)) (mul-dvd-mul_right h part g)
 
 pub parts_lowest : (xs : List ℤ) → divisor_from 0 xs ≢ 0 → divisor_from 0 (map (λ z. divided z (divisor_from 0 xs)) xs) ≡ 1
 parts_lowest xs some =
-    lowest_of xs (divisor_from 0 xs) (divisor_from 0 (map (λ z. divided z (divisor_from 0 xs)) xs)) some (divisor_is_greatest xs) (divisor_is_greatest (map (λ z. divided z (divisor_from 0 xs)) xs))
+    lowest_of xs (divisor_from 0 xs) (divisor_from 0 (map (λ z. divided z (divisor_from 0 xs)) xs)) some (divisor_is_greatest xs)
+    (divisor_is_greatest (map (λ z. divided z (divisor_from 0 xs)) xs))
 
 -- ---- a matrix
 pub primitive_is : (m : Symmetric) → record { size = m.size; lower = map (λ z. divided z (divisor_from 0 m.lower)) m.lower } ≡ primitive_of m
@@ -80,11 +83,13 @@ primitive_entry m i j =
     entry_at_zero z = entry_in z (map (λ z. divided z (divisor_of m)) m.lower) i j
 
 -- the divisor times an entry of the primitive form is the entry
-pub primitive_times : (m : Symmetric) (i j : ℕ) → length m.lower ≡ triangle m.size → i < m.size → j < m.size → pos (divisor_of m) *ℤ entry (primitive_of m) i j ≡ entry m i j
+pub primitive_times : (m : Symmetric) (i j : ℕ) → length m.lower ≡ triangle m.size → i < m.size → j < m.size
+    → pos (divisor_of m) *ℤ entry (primitive_of m) i j ≡ entry m i j
 primitive_times m i j long li lj =
     ap (λ (z : ℤ). pos (divisor_of m) *ℤ z) (primitive_entry m i j)
     ∙ *ℤ_comm (pos (divisor_of m)) (divided (entry m i j) (divisor_of m))
     ∙ divided_times (entry m i j) (divisor_of m) (div-mul_cancel (divisor_of m) divides)
   where
     divides : divisor_of m ∣ nat_abs (entry m i j)
-    divides = rw (entry_sorted m i j) ((divisor_is_greatest m.lower).divides _ (pos 0) (omega (arith, long, entry_before (max i j) (min i j) m.size (omega arith) (omega arith))))
+    divides = rw (entry_sorted m i j)
+        ((divisor_is_greatest m.lower).divides _ (pos 0) (omega (arith, long, entry_before (max i j) (min i j) m.size (omega arith) (omega arith))))

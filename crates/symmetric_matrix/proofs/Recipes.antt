@@ -1,9 +1,9 @@
 -- The steps of a sum of products.
-use Rattle.std.specs.Prelude.{◌≡◌, ℕ, ◌+◌, ◌-◌, ◌^◌, ◌<◌, ◌≤◌, nat_lt, nat_abs, Bool, true, false, if◌then◌else◌, FitsSigned, ℤ, pos, ◌+ℤ◌, ◌*ℤ◌, List, [], ◌∷◌, ◌++◌, length, drop, slice_index_or, Result, Ok, Err}
-use Rattle.std.specs.Int.{w128}
-use Rattle.std.proofs.Common.{arith, to_z, of_z, sym, ◌∙◌, ap, refl, subst, add-one, drop-cons, drop_of_length-le}
-use Rattle.std.proofs.lemmas.Int.{ints, to_z-of_z}
+use Rattle.std.specs.Prelude.{◌≡◌, ℕ, ◌+◌, ◌-◌, ◌^◌, ◌<◌, ◌≤◌, nat_abs, Bool, true, false, if◌then◌else◌, ℤ, pos, ◌+ℤ◌, ◌*ℤ◌, List, [], ◌∷◌, ◌++◌, length, drop}
+use Rattle.std.specs.Prelude.{slice_index_or, Result, Ok, Err}
+use Rattle.std.proofs.Common.{sym, ◌∙◌, ap, refl, subst, add-one, drop-cons, drop_of_length-le}
 use Rattle.commutative_ring.proofs.Ring.{int_ring, ring, num, ◌⊕◌, ◌⊗◌, v0, v1, v2, v3}
+use Rattle.commutative_ring.proofs.SmallCases.{at_least_of_test}
 use Rattle.symmetric_matrix.specs.declared.operation.IntOp.{IntOp}
 use Rattle.symmetric_matrix.specs.Owed.{answer}
 use Rattle.symmetric_matrix.specs.Operations.{exact_result, is_owed, mul_op, add_op}
@@ -74,16 +74,9 @@ pub answered_fits : (op : IntOp) (z : ℤ) → answer is_owed (op ∷ []) (exact
 unfolding answer
 answered_fits op z h = by (is_owed op) refl h
   where
-    within : (m : ℕ) → nat_lt (2 ^ 127 - 1) m ≡ false → m ≤ 2 ^ 127 - 1
-    within m e = grind arith
-
     by : (b : Bool) → is_owed op ≡ b → (if b then Err op else Ok (exact_result op)) ≡ Ok z → FitsInt z
     by true e h = absurd cc
-    by false e h = let same : exact_result op ≡ z = cc in subst FitsInt same (within (nat_abs (exact_result op)) e)
-
--- a number that fits is kept as it is
-pub fits_as_kept : (z : ℤ) → FitsInt z → FitsInt (to_z w128 (of_z w128 z))
-fits_as_kept z h = let within : FitsSigned w128 z = omega (arith, ints) in subst FitsInt (sym (to_z-of_z w128 z within)) h
+    by false e h = let same : exact_result op ≡ z = cc in subst FitsInt same (at_least_of_test (2 ^ 127 - 1) (nat_abs (exact_result op)) e)
 
 -- a list in two parts that answers, answers in its second part
 second_answers : {V : Type 0} (xs ys : List IntOp) (v z : V) → answer is_owed (xs ++ ys) v ≡ Ok z → answer is_owed ys v ≡ Ok z
@@ -91,7 +84,8 @@ unfolding answer
 second_answers [] ys v z h = h
 second_answers {V} (op ∷ xs) ys v z h = by (is_owed op) h (second_answers xs ys v z)
   where
-    by : (b : Bool) → (if b then Err op else answer is_owed (xs ++ ys) v) ≡ Ok z → (answer is_owed (xs ++ ys) v ≡ Ok z → answer is_owed ys v ≡ Ok z) → answer is_owed ys v ≡ Ok z
+    by : (b : Bool) → (if b then Err op else answer is_owed (xs ++ ys) v) ≡ Ok z → (answer is_owed (xs ++ ys) v ≡ Ok z → answer is_owed ys v ≡ Ok z)
+        → answer is_owed ys v ≡ Ok z
     by true h rec = absurd cc
     by false h rec = rec h
 
@@ -100,15 +94,18 @@ unfolding answer
 first_answers [] ys u v z h = refl
 first_answers {U} {V} (op ∷ xs) ys u v z h = by (is_owed op) h (first_answers xs ys u v z)
   where
-    by : (b : Bool) → (if b then Err op else answer is_owed (xs ++ ys) v) ≡ Ok z → (answer is_owed (xs ++ ys) v ≡ Ok z → answer is_owed xs u ≡ Ok u) → (if b then Err op else answer is_owed xs u) ≡ Ok u
+    by : (b : Bool) → (if b then Err op else answer is_owed (xs ++ ys) v) ≡ Ok z → (answer is_owed (xs ++ ys) v ≡ Ok z → answer is_owed xs u ≡ Ok u)
+        → (if b then Err op else answer is_owed xs u) ≡ Ok u
     by true h rec = absurd cc
     by false h rec = rec h
 
-product_fits : (s : ℤ) (p : Product) → answer is_owed (product_ops s p) (s +ℤ p.left *ℤ p.right) ≡ Ok (s +ℤ p.left *ℤ p.right) → FitsInt (s +ℤ p.left *ℤ p.right)
+product_fits : (s : ℤ) (p : Product) → answer is_owed (product_ops s p) (s +ℤ p.left *ℤ p.right) ≡ Ok (s +ℤ p.left *ℤ p.right)
+    → FitsInt (s +ℤ p.left *ℤ p.right)
 unfolding product_ops
 product_fits s p h =
     let t : ℤ = s +ℤ p.left *ℤ p.right in
-    let both : answer is_owed (mul_op p.left p.right ∷ add_op s (p.left *ℤ p.right) ∷ []) t ≡ Ok t = second_answers p.before (mul_op p.left p.right ∷ add_op s (p.left *ℤ p.right) ∷ []) t t h in
+    let both : answer is_owed (mul_op p.left p.right ∷ add_op s (p.left *ℤ p.right) ∷ []) t ≡ Ok t =
+    second_answers p.before (mul_op p.left p.right ∷ add_op s (p.left *ℤ p.right) ∷ []) t t h in
     answered_fits (add_op s (p.left *ℤ p.right)) t (second_answers (mul_op p.left p.right ∷ []) (add_op s (p.left *ℤ p.right) ∷ []) t t both)
 
 pub sum_fits : (products : List Product) (s z : ℤ) → FitsInt s → sum_answer products s ≡ Ok z → FitsInt z
@@ -116,10 +113,12 @@ unfolding sum_answer sum_ops sum_from
 sum_fits [] s z f h = let e : Ok s ≡ Ok z = sym (answer_nothing is_owed s) ∙ h in let same : s ≡ z = cc in subst FitsInt same f
 sum_fits (p ∷ rest) s z f h =
     let t : ℤ = s +ℤ p.left *ℤ p.right in
-    sum_fits rest t z (product_fits s p (first_answers (product_ops s p) (sum_ops rest t) t (sum_from rest t) z h)) (second_answers (product_ops s p) (sum_ops rest t) (sum_from rest t) z h)
+    sum_fits rest t z (product_fits s p (first_answers (product_ops s p) (sum_ops rest t) t (sum_from rest t) z h))
+    (second_answers (product_ops s p) (sum_ops rest t) (sum_from rest t) z h)
 
 -- ---- a product and a sum
-pub product_refused : (s x y v : ℤ) (err : IntOp) → answer is_owed (mul_op x y ∷ []) (x *ℤ y) ≡ Err err → answer is_owed (mul_op x y ∷ add_op s (x *ℤ y) ∷ []) v ≡ Err err
+pub product_refused : (s x y v : ℤ) (err : IntOp) → answer is_owed (mul_op x y ∷ []) (x *ℤ y) ≡ Err err
+    → answer is_owed (mul_op x y ∷ add_op s (x *ℤ y) ∷ []) v ≡ Err err
 product_refused s x y v err h = answer-append_err is_owed (mul_op x y ∷ []) (add_op s (x *ℤ y) ∷ []) (x *ℤ y) v err h
 
 pub product_then_sum : (s x y t : ℤ) → answer is_owed (mul_op x y ∷ []) (x *ℤ y) ≡ Ok t

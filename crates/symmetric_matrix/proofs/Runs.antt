@@ -2,10 +2,13 @@
 use Rattle.std.specs.Prelude.{◌≡◌, ℕ, zero, suc, ◌+◌, ◌-◌, ◌<◌, ◌≤◌, ◌⊎◌, List, [], ◌∷◌, ◌++◌, length, map, take, ◌≢◌, slice_index_or}
 use Rattle.std.specs.List.{All, Contains, range_with_len, flat_map}
 use Rattle.std.proofs.Common.{set, arith, sym, ◌∙◌, ap, ap₂, refl, subst, inl, inr}
-use Rattle.std.proofs.lemmas.List.{length-append, append-nil, append_assoc, map-append, length-map, get_or-map, length-take-le, get_or-take, get_or-set_same, get_or-set_other, map-id}
+use Rattle.std.proofs.lemmas.List.{length-append, append-nil, append_assoc, map-append, length-map, get_or-map, length-take-le, get_or-take, get_or-set_same}
+use Rattle.std.proofs.lemmas.List.{get_or-set_other, map-id}
 use Rattle.std.proofs.lemmas.List.FromFn.{length-map-range_with_len, get_or-map-range_with_len, map-range_with_len_more, fill_by_all}
-use Rattle.std.proofs.lemmas.List.Elements.{All-append, All-push, All-map, All-weaker, All-contains, Contains-append_left, Contains-append_right, Contains-get_or}
+use Rattle.std.proofs.lemmas.List.Elements.{All-append, All-push, All-map, All-weaker, All-contains, Contains-append_left, Contains-append_right}
+use Rattle.std.proofs.lemmas.List.Elements.{Contains-get_or}
 use Rattle.std.proofs.lemmas.List.Concat.{flat_map-append}
+use Rattle.commutative_ring.proofs.SmallCases.{at_least_or_below, here_or_before}
 use Rattle.exact_forms.specs.Triangles.{triangle}
 use Rattle.exact_forms.proofs.Triangles.{triangle-zero, triangle-suc}
 use Rattle.exact_forms.specs.Vectors.{ComesBefore, IsIncreasing}
@@ -51,13 +54,15 @@ before_earlier n r s hr hs h =
     omega arith)
 
 -- of two that begin together, the longer
-pub before_longer : (n : ℕ) (r s : Run) → IsRunWithin n r → IsRunWithin n s → s.first ≡ r.first → r.last < s.last → ComesBefore (run_vector n r) (run_vector n s)
+pub before_longer : (n : ℕ) (r s : Run) → IsRunWithin n r → IsRunWithin n s → s.first ≡ r.first → r.last < s.last
+    → ComesBefore (run_vector n r) (run_vector n s)
 before_longer n r s hr hs e h =
     let inside : r.last + 1 < n = omega (arith, hs.inside) in
     comes_before_at (run_vector n r) (run_vector n s) (r.last + 1) (rw length-run_vector inside) (rw length-run_vector inside)
     (λ k l. run_vector_at n r k (omega arith) ∙ run_digit_same r s k e (omega arith) (omega arith) ∙ sym (run_vector_at n s k (omega arith)))
     (let a : slice_index_or (run_vector n r) (r.last + 1) 0 ≡ 0 = run_vector_at n r (r.last + 1) inside ∙ run_digit_after r (r.last + 1) (omega arith) in
-    let b : slice_index_or (run_vector n s) (r.last + 1) 0 ≡ 1 = run_vector_at n s (r.last + 1) inside ∙ run_digit_inside s (r.last + 1) (omega (arith, hr.ordered)) (omega arith) in
+    let b : slice_index_or (run_vector n s) (r.last + 1) 0 ≡ 1 = run_vector_at n s (r.last + 1) inside
+    ∙ run_digit_inside s (r.last + 1) (omega (arith, hr.ordered)) (omega arith) in
     omega arith)
 
 -- ---- lists of runs
@@ -70,7 +75,8 @@ unfolding runs_from
 runs_from_more j m = map-range_with_len_more (λ k. record { first = j; last = k }) j m (j + m) refl
 
 pub range_more : (m : ℕ) → range_with_len 0 (m + 1) ≡ range_with_len 0 m ++ m ∷ []
-range_more m = sym (map-id (range_with_len 0 (m + 1))) ∙ map-range_with_len_more (λ (k : ℕ). k) 0 m m (omega arith) ∙ ap (λ (ks : List ℕ). ks ++ m ∷ []) (map-id (range_with_len 0 m))
+range_more m = sym (map-id (range_with_len 0 (m + 1))) ∙ map-range_with_len_more (λ (k : ℕ). k) 0 m m (omega arith)
+    ∙ ap (λ (ks : List ℕ). ks ++ m ∷ []) (map-id (range_with_len 0 m))
 
 pub late_runs_none : (n : ℕ) → late_runs n 0 ≡ []
 unfolding late_runs
@@ -110,7 +116,8 @@ runs_from_all j (suc m) =
     let e : m + 1 ≡ suc m = omega arith in
     subst (λ (k : ℕ). All (BeginsAt j (suc m)) (runs_from j k)) e
     (rw runs_from_more (All-push (BeginsAt j (suc m)) (runs_from j m) (record { first = j; last = j + m })
-    (All-weaker (BeginsAt j m) (BeginsAt j (suc m)) (λ r b. record { first = b.first; ordered = b.ordered; short = omega (arith, b.short) }) (runs_from j m) (runs_from_all j m))
+    (All-weaker (BeginsAt j m) (BeginsAt j (suc m)) (λ r b. record { first = b.first; ordered = b.ordered; short = omega (arith, b.short) }) (runs_from j m)
+    (runs_from_all j m))
     (record { first = refl; ordered = omega arith; short = omega arith })))
 
 pub late_runs_all : (n m : ℕ) → m ≤ n → All (IsLate n m) (late_runs n m)
@@ -119,7 +126,8 @@ late_runs_all n (suc m) h =
     let e : m + 1 ≡ suc m = omega arith in
     subst (λ (k : ℕ). All (IsLate n (suc m)) (late_runs n k)) e
     (rw late_runs_more (All-append (IsLate n (suc m)) (late_runs n m) (runs_from (n - (m + 1)) (m + 1))
-    (All-weaker (IsLate n m) (IsLate n (suc m)) (λ r b. record { late = omega (arith, b.late); within = b.within }) (late_runs n m) (late_runs_all n m (omega arith)))
+    (All-weaker (IsLate n m) (IsLate n (suc m)) (λ r b. record { late = omega (arith, b.late); within = b.within }) (late_runs n m)
+    (late_runs_all n m (omega arith)))
     (All-weaker (BeginsAt (n - (m + 1)) (m + 1)) (IsLate n (suc m)) begins (runs_from (n - (m + 1)) (m + 1)) (runs_from_all (n - (m + 1)) (m + 1)))))
   where
     begins : (r : Run) → BeginsAt (n - (m + 1)) (m + 1) r → IsLate n (suc m) r
@@ -135,12 +143,11 @@ pub late_runs_contain : (n m : ℕ) (r : Run) → m ≤ n → IsRunWithin n r �
 late_runs_contain n zero r h within late = absurd (omega (arith, within.ordered, within.inside))
 late_runs_contain n (suc m) r h within late =
     let e : m + 1 ≡ suc m = omega arith in
-    subst (λ (k : ℕ). Contains (late_runs n k) r) e (rw late_runs_more (by (earlier_or_here (r.first + m) n) (λ l. late_runs_contain n m r (omega arith) within l)))
+    subst (λ (k : ℕ). Contains (late_runs n k) r) e
+    (rw late_runs_more (by (at_least_or_below (r.first + m) n) (λ l. late_runs_contain n m r (omega arith) within l)))
   where
-    earlier_or_here : (a b : ℕ) → (b ≤ a) ⊎ (a < b)
-    earlier_or_here a b = grind arith
-
-    by : ((n ≤ r.first + m) ⊎ (r.first + m < n)) → (n ≤ r.first + m → Contains (late_runs n m) r) → Contains (late_runs n m ++ runs_from (n - (m + 1)) (m + 1)) r
+    by : ((n ≤ r.first + m) ⊎ (r.first + m < n)) → (n ≤ r.first + m → Contains (late_runs n m) r)
+        → Contains (late_runs n m ++ runs_from (n - (m + 1)) (m + 1)) r
     by (inl l) before = Contains-append_left (late_runs n m) (runs_from (n - (m + 1)) (m + 1)) r (before l)
     by (inr l) before =
         let first : n - (m + 1) ≡ r.first = omega arith in
@@ -154,16 +161,19 @@ Contains-map f xs x (k, l, e) = (k, rw length-map l, get_or-map f xs k x (f x) l
 -- the vectors of a list of runs each of which comes before r
 before_all : (n : ℕ) (r : Run) (rs : List Run) → All (λ s. ComesBefore (run_vector n s) (run_vector n r)) rs
     → (z : List ℕ) → Contains (map (run_vector n) rs) z → ComesBefore z (run_vector n r)
-before_all n r rs h z c = All-contains (λ z. ComesBefore z (run_vector n r)) (map (run_vector n) rs) z (All-map (λ z. ComesBefore z (run_vector n r)) (run_vector n) rs h) c
+before_all n r rs h z c =
+    All-contains (λ z. ComesBefore z (run_vector n r)) (map (run_vector n) rs) z (All-map (λ z. ComesBefore z (run_vector n r)) (run_vector n) rs h) c
 
 -- the runs before the next one
 all_before : (n m d : ℕ) → m < n → d ≤ m
-    → All (λ s. ComesBefore (run_vector n s) (run_vector n (record { first = n - (m + 1); last = n - (m + 1) + d }))) (late_runs n m ++ runs_from (n - (m + 1)) d)
+    → All (λ s. ComesBefore (run_vector n s) (run_vector n (record { first = n - (m + 1); last = n - (m + 1) + d }))) (late_runs n m
+    ++ runs_from (n - (m + 1)) d)
 all_before n m d hm hd =
     let r : Run = record { first = n - (m + 1); last = n - (m + 1) + d } in
     let within : IsRunWithin n r = record { ordered = omega arith; inside = omega arith } in
     All-append (λ s. ComesBefore (run_vector n s) (run_vector n r)) (late_runs n m) (runs_from (n - (m + 1)) d)
-    (All-weaker (IsLate n m) (λ s. ComesBefore (run_vector n s) (run_vector n r)) (λ s l. before_earlier n s r l.within within (omega (arith, l.late))) (late_runs n m) (late_runs_all n m (omega arith)))
+    (All-weaker (IsLate n m) (λ s. ComesBefore (run_vector n s) (run_vector n r)) (λ s l. before_earlier n s r l.within within (omega (arith, l.late)))
+    (late_runs n m) (late_runs_all n m (omega arith)))
     (All-weaker (BeginsAt (n - (m + 1)) d) (λ s. ComesBefore (run_vector n s) (run_vector n r))
     (λ s b. before_longer n s r (record { ordered = omega (arith, b.first, b.ordered); inside = omega (arith, b.short) }) within (sym b.first) b.short)
     (runs_from (n - (m + 1)) d) (runs_from_all (n - (m + 1)) d))
@@ -174,7 +184,8 @@ pub vectors_more : (n m d : ℕ) → map (run_vector n) (late_runs n m ++ runs_f
 vectors_more n m d = rw (runs_from_more, ← append_assoc, map-append) refl
 
 increasing_more : (n m d : ℕ) → m < n → d ≤ m
-    → IsIncreasing (map (run_vector n) (late_runs n m ++ runs_from (n - (m + 1)) d)) → IsIncreasing (map (run_vector n) (late_runs n m ++ runs_from (n - (m + 1)) (d + 1)))
+    → IsIncreasing (map (run_vector n) (late_runs n m ++ runs_from (n - (m + 1)) d))
+    → IsIncreasing (map (run_vector n) (late_runs n m ++ runs_from (n - (m + 1)) (d + 1)))
 increasing_more n m d hm hd h =
     let r : Run = record { first = n - (m + 1); last = n - (m + 1) + d } in
     rw vectors_more (increasing_push (map (run_vector n) (late_runs n m ++ runs_from (n - (m + 1)) d)) (run_vector n r) h
@@ -188,17 +199,21 @@ can_follow_runs n m d hm hd =
     record {
       one_length = λ k l.
           All-contains (λ x. length x ≡ length (run_vector n r)) (map (run_vector n) rs) (slice_index_or (map (run_vector n) rs) k [])
-          (All-map (λ x. length x ≡ length (run_vector n r)) (run_vector n) rs (λ k s l. length-run_vector n (slice_index_or rs k s) ∙ sym (length-run_vector n r)))
+          (All-map (λ x. length x ≡ length (run_vector n r)) (run_vector n) rs (λ k s l. length-run_vector n (slice_index_or rs k s)
+          ∙ sym (length-run_vector n r)))
           (Contains-get_or (map (run_vector n) rs) k [] l);
-      greater = λ k e. before_all n r rs (all_before n m d hm hd) (slice_index_or (map (run_vector n) rs) k []) (Contains-get_or (map (run_vector n) rs) k [] (omega arith));
+      greater = λ k e. before_all n r rs (all_before n m d hm hd) (slice_index_or (map (run_vector n) rs) k [])
+          (Contains-get_or (map (run_vector n) rs) k [] (omega arith));
     }
 
 -- runs from one place on
-pub increasing_row : (n m d : ℕ) → m < n → d ≤ m + 1 → IsIncreasing (map (run_vector n) (late_runs n m)) → IsIncreasing (map (run_vector n) (late_runs n m ++ runs_from (n - (m + 1)) d))
+pub increasing_row : (n m d : ℕ) → m < n → d ≤ m + 1 → IsIncreasing (map (run_vector n) (late_runs n m))
+    → IsIncreasing (map (run_vector n) (late_runs n m ++ runs_from (n - (m + 1)) d))
 increasing_row n m zero hm hd h = rw (runs_from_none, append-nil) h
 increasing_row n m (suc d) hm hd h =
     let e : d + 1 ≡ suc d = omega arith in
-    subst (λ (k : ℕ). IsIncreasing (map (run_vector n) (late_runs n m ++ runs_from (n - (m + 1)) k))) e (increasing_more n m d hm (omega arith) (increasing_row n m d hm (omega arith) h))
+    subst (λ (k : ℕ). IsIncreasing (map (run_vector n) (late_runs n m ++ runs_from (n - (m + 1)) k))) e
+    (increasing_more n m d hm (omega arith) (increasing_row n m d hm (omega arith) h))
 
 pub late_increasing : (n m : ℕ) → m ≤ n → IsIncreasing (map (run_vector n) (late_runs n m))
 late_increasing n zero h = rw late_runs_none tt
@@ -215,21 +230,25 @@ start_list_is n = refl
 pub Contains-map_back : {X Y : Type 0} (f : X → Y) (xs : List X) (y : Y) → Contains (map f xs) y → (x : X) × Contains xs x × (f x ≡ y)
 Contains-map_back f [] y (k, l, e) = absurd (omega arith)
 Contains-map_back f (x ∷ xs) y (zero, l, e) = (x, (0, omega arith, refl), e)
-Contains-map_back f (x ∷ xs) y (suc k, l, e) = let c = Contains-map_back f xs y (k, omega arith, e) in (c.0, (suc c.1.0, (let h = c.1.1 in omega arith), c.1.2), c.2)
+Contains-map_back f (x ∷ xs) y (suc k, l, e) = let c = Contains-map_back f xs y (k, omega arith, e) in
+    (c.0, (suc c.1.0, (let h = c.1.1 in omega arith), c.1.2), c.2)
 
 pub length-start_list : (n : ℕ) → length (start_list n) ≡ triangle n
 length-start_list n = ap length (start_list_is n) ∙ length-map (late_runs n n) (run_vector n) ∙ length-late_runs n n
 
 pub lists_start_vectors : (n : ℕ) → ListsStartVectors n (start_list n)
 lists_start_vectors n = rw start_list_is record {
-  each = λ x c. let r = Contains-map_back (run_vector n) (late_runs n n) x c in (r.0, (All-contains (IsLate n n) (late_runs n n) r.0 (late_runs_all n n (omega arith)) r.1).within, sym r.2);
-  all = λ x (r, within, e). subst (Contains (map (run_vector n) (late_runs n n))) (sym e) (Contains-map (run_vector n) (late_runs n n) r (late_runs_contain n n r (omega arith) within (omega arith)));
+  each = λ x c. let r = Contains-map_back (run_vector n) (late_runs n n) x c in
+      (r.0, (All-contains (IsLate n n) (late_runs n n) r.0 (late_runs_all n n (omega arith)) r.1).within, sym r.2);
+  all = λ x (r, within, e). subst (Contains (map (run_vector n) (late_runs n n))) (sym e)
+      (Contains-map (run_vector n) (late_runs n n) r (late_runs_contain n n r (omega arith) within (omega arith)));
   increasing = late_increasing n n (omega arith);
 }
 
 -- ---- a vector that is filled place by place
 pub run_vector_filled : (n : ℕ) (r : Run) (xs : List ℕ) → n ≤ length xs
-    → ((k : ℕ) → r.first ≤ k → k ≤ r.last → slice_index_or xs k 0 ≡ 1) → ((k : ℕ) → k < r.first → slice_index_or xs k 0 ≡ 0) → ((k : ℕ) → r.last < k → slice_index_or xs k 0 ≡ 0)
+    → ((k : ℕ) → r.first ≤ k → k ≤ r.last → slice_index_or xs k 0 ≡ 1) → ((k : ℕ) → k < r.first → slice_index_or xs k 0 ≡ 0)
+    → ((k : ℕ) → r.last < k → slice_index_or xs k 0 ≡ 0)
     → take n xs ≡ run_vector n r
 unfolding run_vector
 run_vector_filled n r xs long ones before after =
@@ -257,9 +276,6 @@ pub ones_more : (xs : List ℕ) (first i : ℕ) → i < length xs → ((k : ℕ)
     → (k : ℕ) → first ≤ k → k < i + 1 → slice_index_or (set xs i 1) k 0 ≡ 1
 ones_more xs first i l h k a b = by (here_or_before k i b)
   where
-    here_or_before : (k i : ℕ) → k < i + 1 → (k ≡ i) ⊎ (k < i)
-    here_or_before k i b = grind arith
-
     by : ((k ≡ i) ⊎ (k < i)) → slice_index_or (set xs i 1) k 0 ≡ 1
     by (inl e) = rw e (get_or-set_same xs i 1 0 l)
     by (inr m) = get_or-set_other xs i k 1 0 (omega arith) ∙ h k a m
@@ -276,12 +292,14 @@ next_run n m first last hm e a =
     ap₂ (λ (j : ℕ) (k : ℕ). run_vector n (record { first = j; last = k })) f l
 
 pub can_follow_next : (n m first last : ℕ) (list : List (List ℕ)) (x : List ℕ) → m < n → first ≡ n - 1 - m → first ≤ last → last < n
-    → list ≡ map (run_vector n) (late_runs n m ++ runs_from (n - (m + 1)) (last - first)) → x ≡ run_vector n (record { first = first; last = last }) → CanFollow list x
+    → list ≡ map (run_vector n) (late_runs n m ++ runs_from (n - (m + 1)) (last - first)) → x ≡ run_vector n (record { first = first; last = last })
+    → CanFollow list x
 can_follow_next n m first last list x hm e a b is_list is_x =
     rw (is_list, is_x, ← next_run n m first last hm e a) (can_follow_runs n m (last - first) hm (omega arith))
 
 pub next_appended : (n m first last : ℕ) (list new : List (List ℕ)) (x : List ℕ) → m < n → first ≡ n - 1 - m → first ≤ last
-    → list ≡ map (run_vector n) (late_runs n m ++ runs_from (n - (m + 1)) (last - first)) → x ≡ run_vector n (record { first = first; last = last }) → new ≡ list ++ x ∷ []
+    → list ≡ map (run_vector n) (late_runs n m ++ runs_from (n - (m + 1)) (last - first)) → x ≡ run_vector n (record { first = first; last = last })
+    → new ≡ list ++ x ∷ []
     → new ≡ map (run_vector n) (late_runs n m ++ runs_from (n - (m + 1)) (last + 1 - first))
 next_appended n m first last list new x hm e a is_list is_x is_new =
     let more : last - first + 1 ≡ last + 1 - first = omega arith in

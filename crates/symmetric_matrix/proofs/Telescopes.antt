@@ -3,6 +3,7 @@ use Rattle.std.specs.Prelude.{◌≡◌, ℕ, zero, suc, ◌+◌, ◌-◌, ◌<�
 use Rattle.std.proofs.Common.{arith, sym, ◌∙◌, ap, ap₂, refl, inl, inr}
 use Rattle.commutative_ring.proofs.Ring.{CommutativeRing, ring_in, num, ◌⊕◌, ◌⊗◌, ◌⊖◌, v0, v1, v2, v3}
 use Rattle.commutative_ring.proofs.SumOf.{total, total-zero, total-suc, total_none, total_head}
+use Rattle.commutative_ring.proofs.SmallCases.{next_or_within, at_least_or_at_most}
 use Rattle.symmetric_matrix.specs.StartVectors.{Run, run_digit, runs_from, late_runs}
 use Rattle.symmetric_matrix.specs.StartWeights.{framed}
 use Rattle.symmetric_matrix.proofs.Runs.{run_digit_inside, run_digit_before, run_digit_after, runs_from_none, runs_from_more, late_runs_none, late_runs_more}
@@ -66,14 +67,17 @@ module _ {A : Type 0} (R : CommutativeRing A) where
   edged n a i j = framed (R.of_int (pos 0)) n a i j
 
   unfoldable pub weight_in : ℕ → (ℕ → ℕ → A) → Run → A
-  weight_in n a r = R.add (minus (minus (edged n a (r.first + 1) (r.last + 1)) (edged n a r.first (r.last + 1))) (edged n a (r.first + 1) (r.last + 2))) (edged n a r.first (r.last + 2))
+  weight_in n a r =
+      R.add (minus (minus (edged n a (r.first + 1) (r.last + 1)) (edged n a r.first (r.last + 1))) (edged n a (r.first + 1) (r.last + 2)))
+      (edged n a r.first (r.last + 2))
 
   -- the entry at (i,l) of the matrix of a run's vector
   abbrev pub mark_of : ℕ → ℕ → Run → A
   mark_of i l r = R.of_int (pos (run_digit r i) *ℤ pos (run_digit r l))
 
   pub mark_none_left : (i l : ℕ) (r : Run) → run_digit r i ≡ 0 → mark_of i l r ≡ R.of_int (pos 0)
-  mark_none_left i l r h = ap (λ (d : ℕ). R.of_int (pos d *ℤ pos (run_digit r l))) h ∙ R.of_int_mul (pos 0) (pos (run_digit r l)) ∙ R.zero_mul (R.of_int (pos (run_digit r l)))
+  mark_none_left i l r h = ap (λ (d : ℕ). R.of_int (pos d *ℤ pos (run_digit r l))) h ∙ R.of_int_mul (pos 0) (pos (run_digit r l))
+      ∙ R.zero_mul (R.of_int (pos (run_digit r l)))
 
   pub mark_none_right : (i l : ℕ) (r : Run) → run_digit r l ≡ 0 → mark_of i l r ≡ R.of_int (pos 0)
   mark_none_right i l r h =
@@ -110,17 +114,15 @@ module _ {A : Type 0} (R : CommutativeRing A) where
       total_none R m _ (λ d b. share_none n a i l (record { first = j; last = j + d })
       (mark_none_right i l (record { first = j; last = j + d }) (run_digit_after (record { first = j; last = j + d }) l (omega arith))))
 
-  order_of : (x y : ℕ) → x ≤ suc y → (x ≡ suc y) ⊎ (x ≤ y)
-  order_of x y h = grind arith
-
   row_some : (n : ℕ) (a : ℕ → ℕ → A) (i l j m : ℕ) → j ≤ i → i ≤ l → l ≤ j + m
       → total R m (λ d. share n a i l (record { first = j; last = j + d })) ≡ minus (rise n a j l) (rise n a j (j + m))
   row_some n a i l j zero hj hi hl =
       let e : l ≡ j + 0 = omega arith in
       total-zero R _ ∙ sym (minus_same (rise n a j l)) ∙ ap (λ (k : ℕ). minus (rise n a j l) (rise n a j k)) e
-  row_some n a i l j (suc m) hj hi hl = by (order_of l (j + m) (omega arith)) (row_some n a i l j m hj hi)
+  row_some n a i l j (suc m) hj hi hl = by (next_or_within l (j + m) (omega arith)) (row_some n a i l j m hj hi)
     where
-      by : ((l ≡ suc (j + m)) ⊎ (l ≤ j + m)) → (l ≤ j + m → total R m (λ d. share n a i l (record { first = j; last = j + d })) ≡ minus (rise n a j l) (rise n a j (j + m)))
+      by : ((l ≡ suc (j + m)) ⊎ (l ≤ j + m))
+          → (l ≤ j + m → total R m (λ d. share n a i l (record { first = j; last = j + d })) ≡ minus (rise n a j l) (rise n a j (j + m)))
           → total R (suc m) (λ d. share n a i l (record { first = j; last = j + d })) ≡ minus (rise n a j l) (rise n a j (j + suc m))
       by (inl e) before =
           let f : l ≡ j + suc m = omega arith in
@@ -129,7 +131,8 @@ module _ {A : Type 0} (R : CommutativeRing A) where
           let r : Run = record { first = j; last = j + m } in
           let more : j + m + 1 ≡ j + suc m = omega arith in
           total-suc R m (λ d. share n a i l (record { first = j; last = j + d }))
-          ∙ ap₂ R.add (before b) (share_whole n a i l r (mark_one i l r (run_digit_inside r i hj (omega arith)) (run_digit_inside r l (omega arith) b)) ∙ weight_as_rises n a j (j + m))
+          ∙ ap₂ R.add (before b) (share_whole n a i l r (mark_one i l r (run_digit_inside r i hj (omega arith)) (run_digit_inside r l (omega arith) b))
+          ∙ weight_as_rises n a j (j + m))
           ∙ ring_in R (rise n a j l ∷ rise n a j (j + m) ∷ rise n a j (j + m + 1) ∷ []) ((v0 ⊖ v1) ⊕ (v1 ⊖ v2)) (v0 ⊖ v2) refl
           ∙ ap (λ (k : ℕ). minus (rise n a j l) (rise n a j k)) more
 
@@ -137,7 +140,8 @@ module _ {A : Type 0} (R : CommutativeRing A) where
   row_above : (n : ℕ) (a : ℕ → ℕ → A) (i l k : ℕ) → i < n - (k + 1) → row_total (share n a i l) n k ≡ R.of_int (pos 0)
   row_above n a i l k h =
       total_none R (k + 1) _ (λ d b. share_none n a i l (record { first = n - (k + 1); last = n - (k + 1) + d })
-      (mark_none_left i l (record { first = n - (k + 1); last = n - (k + 1) + d }) (run_digit_before (record { first = n - (k + 1); last = n - (k + 1) + d }) i h)))
+      (mark_none_left i l (record { first = n - (k + 1); last = n - (k + 1) + d })
+      (run_digit_before (record { first = n - (k + 1); last = n - (k + 1) + d }) i h)))
 
   no_rise : (n : ℕ) (a : ℕ → ℕ → A) (j k : ℕ) → n ≤ k → rise n a j k ≡ R.of_int (pos 0)
   no_rise n a j k h =
@@ -156,9 +160,10 @@ module _ {A : Type 0} (R : CommutativeRing A) where
   rows_some n a i l zero hi hl hm h =
       let e : i + 1 ≡ n - 0 = omega arith in
       total-zero R _ ∙ sym (minus_same (edged n a (i + 1) (l + 1))) ∙ ap (λ (j : ℕ). minus (edged n a (i + 1) (l + 1)) (edged n a j (l + 1))) e
-  rows_some n a i l (suc m) hi hl hm h = by (order_of n (i + 1 + m) (omega arith)) (rows_some n a i l m hi hl (omega arith))
+  rows_some n a i l (suc m) hi hl hm h = by (next_or_within n (i + 1 + m) (omega arith)) (rows_some n a i l m hi hl (omega arith))
     where
-      by : ((n ≡ suc (i + 1 + m)) ⊎ (n ≤ i + 1 + m)) → (n ≤ i + 1 + m → total R m (λ k. row_total (share n a i l) n k) ≡ minus (edged n a (i + 1) (l + 1)) (edged n a (n - m) (l + 1)))
+      by : ((n ≡ suc (i + 1 + m)) ⊎ (n ≤ i + 1 + m))
+          → (n ≤ i + 1 + m → total R m (λ k. row_total (share n a i l) n k) ≡ minus (edged n a (i + 1) (l + 1)) (edged n a (n - m) (l + 1)))
           → total R (suc m) (λ k. row_total (share n a i l) n k) ≡ minus (edged n a (i + 1) (l + 1)) (edged n a (n - suc m) (l + 1))
       by (inl e) before =
           let f : i + 1 ≡ n - suc m = omega arith in
@@ -169,7 +174,8 @@ module _ {A : Type 0} (R : CommutativeRing A) where
           let here : n - (m + 1) ≡ n - suc m = omega arith in
           total-suc R m (λ k. row_total (share n a i l) n k)
           ∙ ap₂ R.add (before b) (row_whole n a i l m (omega arith) (omega arith) hi hl)
-          ∙ ap₂ (λ (j : ℕ) (g : ℕ). R.add (minus (edged n a (i + 1) (l + 1)) (edged n a (n - m) (l + 1))) (minus (edged n a j (l + 1)) (edged n a g (l + 1)))) up here
+          ∙ ap₂ (λ (j : ℕ) (g : ℕ). R.add (minus (edged n a (i + 1) (l + 1)) (edged n a (n - m) (l + 1))) (minus (edged n a j (l + 1)) (edged n a g (l + 1))))
+          up here
           ∙ ring_in R (edged n a (i + 1) (l + 1) ∷ edged n a (n - m) (l + 1) ∷ edged n a (n - suc m) (l + 1) ∷ []) ((v0 ⊖ v1) ⊕ (v1 ⊖ v2)) (v0 ⊖ v2) refl
 
   -- the weights give the entries in and above the diagonal
@@ -177,7 +183,8 @@ module _ {A : Type 0} (R : CommutativeRing A) where
   shares_above n a i l hi hl =
       let e : n - n ≡ 0 = omega arith in
       sum_of_late (share n a i l) n n ∙ rows_some n a i l n hi hl (omega arith) (omega arith)
-      ∙ ap₂ minus (framed_inside (R.of_int (pos 0)) n a i l (omega arith) hl) (ap (λ (j : ℕ). edged n a j (l + 1)) e ∙ framed_above (R.of_int (pos 0)) n a (l + 1))
+      ∙ ap₂ minus (framed_inside (R.of_int (pos 0)) n a i l (omega arith) hl) (ap (λ (j : ℕ). edged n a j (l + 1)) e
+      ∙ framed_above (R.of_int (pos 0)) n a (l + 1))
       ∙ ring_in R (a i l ∷ []) (v0 ⊖ num (pos 0)) v0 refl
 
   pub list_sum_same : {X : Type 0} (f g : X → A) (xs : List X) → ((x : X) → f x ≡ g x) → list_sum f xs ≡ list_sum g xs
@@ -187,13 +194,11 @@ module _ {A : Type 0} (R : CommutativeRing A) where
 
   pub shares_give_entry : (n : ℕ) (a : ℕ → ℕ → A) → ((i j : ℕ) → i < n → j < n → a i j ≡ a j i) → (i l : ℕ) → i < n → l < n
       → list_sum (share n a i l) (late_runs n n) ≡ a i l
-  shares_give_entry n a symmetric i l hi hl = by (order i l)
+  shares_give_entry n a symmetric i l hi hl = by (at_least_or_at_most l i)
     where
-      order : (i l : ℕ) → (i ≤ l) ⊎ (l ≤ i)
-      order i l = grind arith
-
       flip : (r : Run) → share n a i l r ≡ share n a l i r
-      flip r = ap (λ w. R.mul (weight_in n a r) w) (R.of_int_mul (pos (run_digit r i)) (pos (run_digit r l)) ∙ R.mul_comm (R.of_int (pos (run_digit r i))) (R.of_int (pos (run_digit r l))) ∙ sym (R.of_int_mul (pos (run_digit r l)) (pos (run_digit r i))))
+      flip r = ap (λ w. R.mul (weight_in n a r) w) (R.of_int_mul (pos (run_digit r i)) (pos (run_digit r l))
+          ∙ R.mul_comm (R.of_int (pos (run_digit r i))) (R.of_int (pos (run_digit r l))) ∙ sym (R.of_int_mul (pos (run_digit r l)) (pos (run_digit r i))))
 
       by : ((i ≤ l) ⊎ (l ≤ i)) → list_sum (share n a i l) (late_runs n n) ≡ a i l
       by (inl h) = shares_above n a i l h hl

@@ -5,8 +5,9 @@ use Rattle.std.proofs.Common.{arith, sym, ◌∙◌, ap, ap₂, refl, inl, inr}
 use Rattle.std.proofs.lemmas.List.{append-nil, length-append, get_or-map, get_or_append_left, get_or-append-add}
 use Rattle.std.proofs.lemmas.List.FromFn.{length-map-range_with_len, get_or-map-range_with_len, map-range_with_len_more}
 use Rattle.std.proofs.lemmas.List.Concat.{flat_map-append}
-use Rattle.commutative_ring.proofs.Expand.{expand}
 use Rattle.commutative_ring.proofs.Ring.{int_ring}
+use Rattle.commutative_ring.proofs.Laws.{one_mul_ℤ}
+use Rattle.commutative_ring.proofs.SmallCases.{before_or_last}
 use Rattle.exact_forms.specs.Sums.{sum_to}
 use Rattle.exact_forms.specs.Triangles.{triangle}
 use Rattle.exact_forms.proofs.Sums.{sum_to-zero, sum_to-suc, sum_to_more, sum_to_same, mul-sum_to}
@@ -50,11 +51,9 @@ length-triangle_places (suc n) =
 
 pub triangle_place_at : (n i j : ℕ) (d : Place) → i < n → j ≤ i → slice_index_or (triangle_places n) (triangle i + j) d ≡ record { row = i; column = j }
 triangle_place_at zero i j d hi hj = absurd (omega arith)
-triangle_place_at (suc n) i j d hi hj = ap (λ (ps : List Place). slice_index_or ps (triangle i + j) d) (triangle_places-suc n) ∙ by (order i n hi) (λ l. triangle_place_at n i j d l hj)
+triangle_place_at (suc n) i j d hi hj = ap (λ (ps : List Place). slice_index_or ps (triangle i + j) d) (triangle_places-suc n)
+    ∙ by (before_or_last i n hi) (λ l. triangle_place_at n i j d l hj)
   where
-    order : (i n : ℕ) → i < suc n → (i < n) ⊎ (i ≡ n)
-    order i n h = grind arith
-
     by : ((i < n) ⊎ (i ≡ n)) → (i < n → slice_index_or (triangle_places n) (triangle i + j) d ≡ record { row = i; column = j })
         → slice_index_or (triangle_places n ++ row_places n) (triangle i + j) d ≡ record { row = i; column = j }
     by (inl l) before =
@@ -84,7 +83,8 @@ unfolding row_places
 sum_of_row_places f i = sum_of_range (place i) f (i + 1)
 
 sum_of_triangle : (f : Place → ℤ) (n : ℕ) → places_sum f (triangle_places n) ≡ sum_to n (λ i. sum_to (i + 1) (λ j. f (record { row = i; column = j })))
-sum_of_triangle f zero = ap (places_sum f) triangle_places_none ∙ list_sum_none int_ring f ∙ sym (sum_to-zero (λ i. sum_to (i + 1) (λ j. f (record { row = i; column = j }))))
+sum_of_triangle f zero = ap (places_sum f) triangle_places_none ∙ list_sum_none int_ring f
+    ∙ sym (sum_to-zero (λ i. sum_to (i + 1) (λ j. f (record { row = i; column = j }))))
 sum_of_triangle f (suc n) =
     ap (places_sum f) (triangle_places-suc n) ∙ list_sum-append int_ring f (triangle_places n) (row_places n)
     ∙ ap₂ (λ (a : ℤ) (b : ℤ). a +ℤ b) (sum_of_triangle f n) (sum_of_row_places f n)
@@ -106,15 +106,13 @@ sum_by_places n g symmetric =
     ∙ sum_to_same n _ _ (λ i l. row i)
     ∙ sym (sum_by_triangle n g symmetric)
   where
-    one_times : (x : ℤ) → pos 1 *ℤ x ≡ x
-    one_times x = simp expand
-
     row : (i : ℕ) → sum_to (i + 1) (λ j. pos (multiplicity (record { row = i; column = j })) *ℤ g i j) ≡ pos 2 *ℤ sum_to i (λ j. g i j) +ℤ g i i
     row i =
         sum_to_more i (λ j. pos (multiplicity (record { row = i; column = j })) *ℤ g i j)
         ∙ ap₂ (λ (a : ℤ) (b : ℤ). a +ℤ b)
-        (sum_to_same i _ (λ j. pos 2 *ℤ g i j) (λ j l. ap (λ (m : ℕ). pos m *ℤ g i j) (multiplicity_beside i j (omega arith))) ∙ sym (mul-sum_to (pos 2) i (λ j. g i j)))
-        (ap (λ (m : ℕ). pos m *ℤ g i i) (multiplicity_on i) ∙ one_times (g i i))
+        (sum_to_same i _ (λ j. pos 2 *ℤ g i j) (λ j l. ap (λ (m : ℕ). pos m *ℤ g i j) (multiplicity_beside i j (omega arith)))
+        ∙ sym (mul-sum_to (pos 2) i (λ j. g i j)))
+        (ap (λ (m : ℕ). pos m *ℤ g i i) (multiplicity_on i) ∙ one_mul_ℤ (g i i))
 
 -- ---- a matrix that is made place by place
 pub placed_entry : (n : ℕ) (g : Place → ℤ) (i j : ℕ) → j ≤ i → i < n → entry (record { size = n; lower = map g (triangle_places n) }) i j ≡ g (place i j)

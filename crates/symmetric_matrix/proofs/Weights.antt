@@ -6,6 +6,7 @@ use Rattle.std.proofs.lemmas.List.Elements.{All-contains, Contains-get_or}
 use Rattle.commutative_ring.proofs.Ring.{CommutativeRing, ring_in, ring, num, ◌⊕◌, ◌⊗◌, ◌⊖◌, v0, v1, v2, v3, v4}
 use Rattle.commutative_ring.proofs.Laws.{neg_is_mul, zero_mul_ℤ}
 use Rattle.commutative_ring.proofs.SumOf.{total, total_same, total_none, total_one, total-add, total-neg}
+use Rattle.commutative_ring.proofs.SmallCases.{positive_product}
 use Rattle.exact_forms.specs.Rational.{Rational, ratio, whole, ◌+ℚ◌, ◌*ℚ◌, neg_ℚ}
 use Rattle.exact_forms.specs.Sums.{sum_ℚ}
 use Rattle.exact_forms.specs.Vectors.{coordinate}
@@ -15,7 +16,8 @@ use Rattle.exact_forms.proofs.Vectors.{increasing_once}
 use Rattle.symmetric_matrix.specs.StartVectors.{Run, run_digit, run_vector, late_runs, start_list, IsRunWithin}
 use Rattle.symmetric_matrix.specs.StartWeights.{framed, start_weight, start_weights, start_coordinates}
 use Rattle.symmetric_matrix.proofs.Runs.{run_vector_at, late_runs_all, late_increasing, start_list_is, IsLate}
-use Rattle.symmetric_matrix.proofs.Frames.{framed_same, framed-map, framed_family, framed_product, padded_run, edge, edge_inside, edge_before, edge_after, edges_apart}
+use Rattle.symmetric_matrix.proofs.Frames.{framed_same, framed-map, framed_family, framed_product, padded_run, edge, edge_inside, edge_before, edge_after}
+use Rattle.symmetric_matrix.proofs.Frames.{edges_apart}
 use Rattle.symmetric_matrix.proofs.Telescopes.{minus, total_of_list, edged, weight_in, mark_of, share, shares_give_entry}
 
 abbrev pub no_run : Run
@@ -28,14 +30,24 @@ abbrev pub run_count : ℕ → ℕ
 run_count n = length (late_runs n n)
 
 pub run_at_within : (n k : ℕ) → k < run_count n → IsRunWithin n (run_at n k)
-run_at_within n k l = (All-contains (IsLate n n) (late_runs n n) (run_at n k) (late_runs_all n n (omega arith)) (Contains-get_or (late_runs n n) k no_run l)).within
+run_at_within n k l =
+    (All-contains (IsLate n n) (late_runs n n) (run_at n k) (late_runs_all n n (omega arith)) (Contains-get_or (late_runs n n) k no_run l)).within
 
-pub runs_apart : (n k l : ℕ) → k < run_count n → l < run_count n → k ≢ l → ((run_at n k).first ≡ (run_at n l).first) → ((run_at n k).last ≡ (run_at n l).last) → ⊥
+pub runs_apart : (n k l : ℕ) → k < run_count n → l < run_count n → k ≢ l → ((run_at n k).first ≡ (run_at n l).first) → ((run_at n k).last ≡ (run_at n l).last)
+    → ⊥
 runs_apart n k l hk hl ne first last =
     ne (increasing_once (map (run_vector n) (late_runs n n)) [] (late_increasing n n (omega arith)) k l (rw length-map hk) (rw length-map hl)
     (get_or-map (run_vector n) (late_runs n n) k no_run [] hk
     ∙ ap₂ (λ (a : ℕ) (b : ℕ). run_vector n (record { first = a; last = b })) first last
     ∙ sym (get_or-map (run_vector n) (late_runs n n) l no_run [] hl)))
+
+-- ---- the four entries of which a weight is made
+abbrev corners : {A : Type 0} → (A → A → A) → (A → A → A) → (ℕ → ℕ → A) → Run → A
+corners plus less f r = plus (less (less (f (r.first + 1) (r.last + 1)) (f r.first (r.last + 1))) (f (r.first + 1) (r.last + 2))) (f r.first (r.last + 2))
+
+corners_same : {A : Type 0} {f g : ℕ → ℕ → A} (plus less : A → A → A) (r : Run) → ((i j : ℕ) → f i j ≡ g i j) → corners plus less f r ≡ corners plus less g r
+corners_same plus less r at =
+    ap₂ plus (ap₂ less (ap₂ less (at (r.first + 1) (r.last + 1)) (at r.first (r.last + 1))) (at (r.first + 1) (r.last + 2))) (at r.first (r.last + 2))
 
 -- ---- whole weights
 -- the weights of the matrix of one run's vector
@@ -43,14 +55,13 @@ product_weight : (n : ℕ) (s r : Run) → IsRunWithin n s → start_weight n (�
     ≡ (pos (edge s (r.first + 1)) +ℤ neg_ℤ (pos (edge s r.first))) *ℤ (pos (edge s (r.last + 1)) +ℤ neg_ℤ (pos (edge s (r.last + 2))))
 unfolding start_weight
 product_weight n s r within =
-    ap₂ (λ (x : ℤ) (y : ℤ). x +ℤ y)
-    (ap₂ (λ (x : ℤ) (y : ℤ). x +ℤ neg_ℤ y) (ap₂ (λ (x : ℤ) (y : ℤ). x +ℤ neg_ℤ y) (at (r.first + 1) (r.last + 1)) (at r.first (r.last + 1))) (at (r.first + 1) (r.last + 2)))
-    (at r.first (r.last + 2))
+    corners_same (λ (x : ℤ) (y : ℤ). x +ℤ y) (λ (x : ℤ) (y : ℤ). x +ℤ neg_ℤ y) r at
     ∙ ring (pos (edge s (r.first + 1)) ∷ pos (edge s r.first) ∷ pos (edge s (r.last + 1)) ∷ pos (edge s (r.last + 2)) ∷ [])
     (((v0 ⊗ v2 ⊖ v1 ⊗ v2) ⊖ v0 ⊗ v3) ⊕ v1 ⊗ v3) ((v0 ⊖ v1) ⊗ (v2 ⊖ v3)) refl
   where
     at : (i j : ℕ) → framed (pos 0) n (λ i j. pos (run_digit s i) *ℤ pos (run_digit s j)) i j ≡ pos (edge s i) *ℤ pos (edge s j)
-    at i j = framed_product n (λ p. pos (run_digit s p)) (λ p. pos (run_digit s p)) i j ∙ ap₂ (λ (x : ℤ) (y : ℤ). x *ℤ y) (padded_run n s i within) (padded_run n s j within)
+    at i j = framed_product n (λ p. pos (run_digit s p)) (λ p. pos (run_digit s p)) i j
+        ∙ ap₂ (λ (x : ℤ) (y : ℤ). x *ℤ y) (padded_run n s i within) (padded_run n s j within)
 
 own_weight : (n : ℕ) (s : Run) → IsRunWithin n s → start_weight n (λ i j. pos (run_digit s i) *ℤ pos (run_digit s j)) s ≡ pos 1
 own_weight n s within =
@@ -77,7 +88,7 @@ module _ {A : Type 0} (R : CommutativeRing A) where
   unfolding weight_in
   weight_same n a b r h =
       let at : (i j : ℕ) → edged R n a i j ≡ edged R n b i j = framed_same (R.of_int (pos 0)) n a b h in
-      ap₂ R.add (ap₂ (minus R) (ap₂ (minus R) (at (r.first + 1) (r.last + 1)) (at r.first (r.last + 1))) (at (r.first + 1) (r.last + 2))) (at r.first (r.last + 2))
+      corners_same R.add (minus R) r at
 
   neg_of_int : (a : ℤ) → R.neg (R.of_int a) ≡ R.of_int (neg_ℤ a)
   neg_of_int a = R.neg_is_mul (R.of_int a) ∙ sym (R.of_int_mul (negsuc 0) a) ∙ ap R.of_int (neg_is_mul a)
@@ -86,12 +97,13 @@ module _ {A : Type 0} (R : CommutativeRing A) where
   unfolding weight_in start_weight
   weight-of_int n q r =
       let at : (i j : ℕ) → edged R n (λ i j. R.of_int (q i j)) i j ≡ R.of_int (framed (pos 0) n q i j) = λ i j. framed-map R.of_int (pos 0) n q i j in
-      let less : (a b : ℤ) → minus R (R.of_int a) (R.of_int b) ≡ R.of_int (a +ℤ neg_ℤ b) = λ a b. ap (λ w. R.add (R.of_int a) w) (neg_of_int b) ∙ sym (R.of_int_add a (neg_ℤ b)) in
+      let less : (a b : ℤ) → minus R (R.of_int a) (R.of_int b) ≡ R.of_int (a +ℤ neg_ℤ b) = λ a b. ap (λ w. R.add (R.of_int a) w) (neg_of_int b)
+      ∙ sym (R.of_int_add a (neg_ℤ b)) in
       let e : ℤ = framed (pos 0) n q (r.first + 1) (r.last + 1) in
       let f : ℤ = framed (pos 0) n q r.first (r.last + 1) in
       let g : ℤ = framed (pos 0) n q (r.first + 1) (r.last + 2) in
       let h : ℤ = framed (pos 0) n q r.first (r.last + 2) in
-      ap₂ R.add (ap₂ (minus R) (ap₂ (minus R) (at (r.first + 1) (r.last + 1)) (at r.first (r.last + 1))) (at (r.first + 1) (r.last + 2))) (at r.first (r.last + 2))
+      corners_same R.add (minus R) r at
       ∙ ap (λ w. R.add (minus R w (R.of_int g)) (R.of_int h)) (less e f)
       ∙ ap (λ w. R.add w (R.of_int h)) (less (e +ℤ neg_ℤ f) g)
       ∙ sym (R.of_int_add (e +ℤ neg_ℤ f +ℤ neg_ℤ g) h)
@@ -102,8 +114,9 @@ module _ {A : Type 0} (R : CommutativeRing A) where
       let zero_is : R.mul c (R.of_int (pos 0)) ≡ R.of_int (pos 0) = ring_in R (c ∷ []) (v0 ⊗ num (pos 0)) (num (pos 0)) refl in
       let at : (i j : ℕ) → edged R n (λ i j. R.mul c (a i j)) i j ≡ R.mul c (edged R n a i j) =
       λ i j. ap (λ w. framed w n (λ i j. R.mul c (a i j)) i j) (sym zero_is) ∙ framed-map (λ w. R.mul c w) (R.of_int (pos 0)) n a i j in
-      ap₂ R.add (ap₂ (minus R) (ap₂ (minus R) (at (r.first + 1) (r.last + 1)) (at r.first (r.last + 1))) (at (r.first + 1) (r.last + 2))) (at r.first (r.last + 2))
-      ∙ ring_in R (c ∷ edged R n a (r.first + 1) (r.last + 1) ∷ edged R n a r.first (r.last + 1) ∷ edged R n a (r.first + 1) (r.last + 2) ∷ edged R n a r.first (r.last + 2) ∷ [])
+      corners_same R.add (minus R) r at
+      ∙ ring_in R (c ∷ edged R n a (r.first + 1) (r.last + 1) ∷ edged R n a r.first (r.last + 1) ∷ edged R n a (r.first + 1) (r.last + 2)
+      ∷ edged R n a r.first (r.last + 2) ∷ [])
       (((v0 ⊗ v1 ⊖ v0 ⊗ v2) ⊖ v0 ⊗ v3) ⊕ v0 ⊗ v4) (v0 ⊗ (((v1 ⊖ v2) ⊖ v3) ⊕ v4)) refl
 
   weight-total : (n m : ℕ) (f : ℕ → ℕ → ℕ → A) (r : Run) → weight_in R n (λ i j. total R m (λ s. f s i j)) r ≡ total R m (λ s. weight_in R n (f s) r)
@@ -115,8 +128,9 @@ module _ {A : Type 0} (R : CommutativeRing A) where
       let g : ℕ → A = λ (s : ℕ). edged R n (f s) r.first (r.last + 1) in
       let h : ℕ → A = λ (s : ℕ). edged R n (f s) (r.first + 1) (r.last + 2) in
       let k : ℕ → A = λ (s : ℕ). edged R n (f s) r.first (r.last + 2) in
-      ap₂ R.add (ap₂ (minus R) (ap₂ (minus R) (at (r.first + 1) (r.last + 1)) (at r.first (r.last + 1))) (at (r.first + 1) (r.last + 2))) (at r.first (r.last + 2))
-      ∙ ap (λ w. R.add w (total R m k)) (ap₂ R.add (ap (λ w. R.add (total R m e) w) (sym (total-neg R m g)) ∙ sym (total-add R m e (λ s. R.neg (g s)))) (sym (total-neg R m h)) ∙ sym (total-add R m (λ s. minus R (e s) (g s)) (λ s. R.neg (h s))))
+      corners_same R.add (minus R) r at
+      ∙ ap (λ w. R.add w (total R m k)) (ap₂ R.add (ap (λ w. R.add (total R m e) w) (sym (total-neg R m g))
+      ∙ sym (total-add R m e (λ s. R.neg (g s)))) (sym (total-neg R m h)) ∙ sym (total-add R m (λ s. minus R (e s) (g s)) (λ s. R.neg (h s))))
       ∙ sym (total-add R m (λ s. minus R (minus R (e s) (g s)) (h s)) k)
 
   pub weight_recovered : (n : ℕ) (c : ℕ → A) (t : ℕ) → t < run_count n
@@ -125,8 +139,10 @@ module _ {A : Type 0} (R : CommutativeRing A) where
       weight-total n (run_count n) (λ k i j. R.mul (c k) (mark_of R i j (run_at n k))) (run_at n t)
       ∙ total_same R (run_count n) _ _ (λ k h. weight-mul n (c k) (λ i j. mark_of R i j (run_at n k)) (run_at n t)
       ∙ ap (λ w. R.mul (c k) w) (weight-of_int n (λ i j. pos (run_digit (run_at n k) i) *ℤ pos (run_digit (run_at n k) j)) (run_at n t)))
-      ∙ total_one R (run_count n) (λ k. R.mul (c k) (R.of_int (start_weight n (λ i j. pos (run_digit (run_at n k) i) *ℤ pos (run_digit (run_at n k) j)) (run_at n t)))) t l
-      (λ k h ne. ap (λ (w : ℤ). R.mul (c k) (R.of_int w)) (other_weight n (run_at n k) (run_at n t) (run_at_within n k h) (run_at_within n t l) (runs_apart n t k l h (λ e. ne (sym e))))
+      ∙ total_one R (run_count n)
+      (λ k. R.mul (c k) (R.of_int (start_weight n (λ i j. pos (run_digit (run_at n k) i) *ℤ pos (run_digit (run_at n k) j)) (run_at n t)))) t l
+      (λ k h ne. ap (λ (w : ℤ). R.mul (c k) (R.of_int w))
+      (other_weight n (run_at n k) (run_at n t) (run_at_within n k h) (run_at_within n t l) (runs_apart n t k l h (λ e. ne (sym e))))
       ∙ ring_in R (c k ∷ []) (v0 ⊗ num (pos 0)) (num (pos 0)) refl)
       ∙ ap (λ (w : ℤ). R.mul (c t) (R.of_int w)) (own_weight n (run_at n t) (run_at_within n t l))
       ∙ ring_in R (c t ∷ []) (v0 ⊗ num (pos 1)) v0 refl
@@ -139,22 +155,21 @@ ratio_zero d h = ratio_same (pos 0) (pos 0) d 1 h (omega arith) (sym (zero_mul_�
 ratio_plus : (p r : ℤ) (d : ℕ) → 0 < d → ratio p d +ℚ ratio r d ≡ ratio (p +ℤ r) d
 ratio_plus p r d h =
     add-ratio p r d d h h
-    ∙ ratio_same (p *ℤ pos d +ℤ r *ℤ pos d) (p +ℤ r) (d * d) d (positive_product d d h h) h (ring (p ∷ r ∷ pos d ∷ []) ((v0 ⊗ v2 ⊕ v1 ⊗ v2) ⊗ v2) ((v0 ⊕ v1) ⊗ (v2 ⊗ v2)) refl)
-  where
-    positive_product : (a b : ℕ) → 0 < a → 0 < b → 0 < a * b
-    positive_product a b h k = grind arith
+    ∙ ratio_same (p *ℤ pos d +ℤ r *ℤ pos d) (p +ℤ r) (d * d) d (positive_product d d h h) h
+    (ring (p ∷ r ∷ pos d ∷ []) ((v0 ⊗ v2 ⊕ v1 ⊗ v2) ⊗ v2) ((v0 ⊕ v1) ⊗ (v2 ⊗ v2)) refl)
 
 weight-ratio : (n : ℕ) (q : ℕ → ℕ → ℤ) (d : ℕ) (r : Run) → 0 < d → weight_in rational_ring n (λ i j. ratio (q i j) d) r ≡ ratio (start_weight n q r) d
 unfolding weight_in start_weight
 weight-ratio n q d r positive =
     let at : (i j : ℕ) → edged rational_ring n (λ i j. ratio (q i j) d) i j ≡ ratio (framed (pos 0) n q i j) d =
     λ i j. ap (λ w. framed w n (λ i j. ratio (q i j) d) i j) (sym (ratio_zero d positive)) ∙ framed-map (λ (z : ℤ). ratio z d) (pos 0) n q i j in
-    let less : (a b : ℤ) → ratio a d +ℚ neg_ℚ (ratio b d) ≡ ratio (a +ℤ neg_ℤ b) d = λ a b. ap (λ w. ratio a d +ℚ w) (neg-ratio b d positive) ∙ ratio_plus a (neg_ℤ b) d positive in
+    let less : (a b : ℤ) → ratio a d +ℚ neg_ℚ (ratio b d) ≡ ratio (a +ℤ neg_ℤ b) d = λ a b. ap (λ w. ratio a d +ℚ w) (neg-ratio b d positive)
+    ∙ ratio_plus a (neg_ℤ b) d positive in
     let e : ℤ = framed (pos 0) n q (r.first + 1) (r.last + 1) in
     let f : ℤ = framed (pos 0) n q r.first (r.last + 1) in
     let g : ℤ = framed (pos 0) n q (r.first + 1) (r.last + 2) in
     let h : ℤ = framed (pos 0) n q r.first (r.last + 2) in
-    ap₂ (λ v w. v +ℚ w) (ap₂ (λ v w. v +ℚ neg_ℚ w) (ap₂ (λ v w. v +ℚ neg_ℚ w) (at (r.first + 1) (r.last + 1)) (at r.first (r.last + 1))) (at (r.first + 1) (r.last + 2))) (at r.first (r.last + 2))
+    corners_same (λ v w. v +ℚ w) (λ v w. v +ℚ neg_ℚ w) r at
     ∙ ap (λ w. (w +ℚ neg_ℚ (ratio g d)) +ℚ ratio h d) (less e f)
     ∙ ap (λ w. w +ℚ ratio h d) (less (e +ℤ neg_ℤ f) g)
     ∙ ratio_plus (e +ℤ neg_ℤ f +ℤ neg_ℤ g) h d positive
@@ -173,7 +188,9 @@ rank_one_by_runs : (n : ℕ) (c : ℕ → Rational) (i j : ℕ) → i < n → j 
     → rank_one_sum (start_list n) c i j ≡ total rational_ring (run_count n) (λ k. c k *ℚ mark_of rational_ring i j (run_at n k))
 unfolding rank_one_sum sum_ℚ
 rank_one_by_runs n c i j hi hj =
-    ap (λ (m : ℕ). total rational_ring m (λ k. c k *ℚ whole (coordinate (slice_index_or (start_list n) k []) i *ℤ coordinate (slice_index_or (start_list n) k []) j))) (length_by_runs n)
+    ap (λ (m : ℕ).
+    total rational_ring m (λ k. c k *ℚ whole (coordinate (slice_index_or (start_list n) k []) i *ℤ coordinate (slice_index_or (start_list n) k []) j)))
+    (length_by_runs n)
     ∙ total_same rational_ring (run_count n) _ _ (λ k l. ap₂ (λ (x : ℤ) (y : ℤ). c k *ℚ whole (x *ℤ y)) (start_digit n k i l hi) (start_digit n k j l hj))
 
 start_coordinate_at : (n : ℕ) (q : ℕ → ℕ → ℤ) (d k : ℕ) → k < run_count n → start_coordinates n q d k ≡ ratio (start_weight n q (run_at n k)) d
@@ -196,14 +213,17 @@ zero_entry n i j = framed-map (λ (z : ℤ). pos 0) (pos 0) n (λ i j. pos 0) i 
 
 zero_weight : (n : ℕ) (r : Run) → ratio (start_weight n (λ i j. pos 0) r) 1 ≡ whole (pos 0)
 unfolding start_weight
-zero_weight n r = rw (zero_entry n (r.first + 1) (r.last + 1), zero_entry n r.first (r.last + 1), zero_entry n (r.first + 1) (r.last + 2), zero_entry n r.first (r.last + 2)) (ratio_zero 1 (omega arith))
+zero_weight n r =
+    rw (zero_entry n (r.first + 1) (r.last + 1), zero_entry n r.first (r.last + 1), zero_entry n (r.first + 1) (r.last + 2), zero_entry n r.first (r.last + 2))
+    (ratio_zero 1 (omega arith))
 
 pub start_matrices_independent : (n : ℕ) → AreIndependent n (start_list n)
 start_matrices_independent n = record {
   only_zero = λ c h k l.
       let inside : k < run_count n = omega (arith, length_by_runs n) in
       sym (weight_recovered rational_ring n c k inside)
-      ∙ weight_same rational_ring n (λ i j. total rational_ring (run_count n) (λ k. c k *ℚ mark_of rational_ring i j (run_at n k))) (λ i j. ratio (pos 0) 1) (run_at n k)
+      ∙ weight_same rational_ring n (λ i j. total rational_ring (run_count n) (λ k. c k *ℚ mark_of rational_ring i j (run_at n k))) (λ i j. ratio (pos 0) 1)
+      (run_at n k)
       (λ i j hi hj. sym (rank_one_by_runs n c i j hi hj) ∙ h.sum i j hi hj ∙ sym (ratio_zero 1 (omega arith)))
       ∙ weight-ratio n (λ i j. pos 0) 1 (run_at n k) (omega arith)
       ∙ zero_weight n (run_at n k);

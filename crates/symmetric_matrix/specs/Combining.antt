@@ -30,7 +30,8 @@ combined q P p R = record {
 
 abbrev pub combine_at : ℤ → Symmetric → ℤ → Symmetric → Place → List IntOp
 combine_at q P p R c =
-    mul_op q (entry P c.row c.column) ∷ mul_op p (entry R c.row c.column) ∷ add_op (q *ℤ entry P c.row c.column) (p *ℤ entry R c.row c.column) ∷ []
+    mul_op q (entry P c.row c.column) ∷ mul_op p (entry R c.row c.column)
+    ∷ add_op (q *ℤ entry P c.row c.column) (p *ℤ entry R c.row c.column) ∷ []
 
 unfoldable pub combine_ops : ℤ → Symmetric → ℤ → Symmetric → List IntOp
 combine_ops q P p R = flat_map (combine_at q P p R) (triangle_places P.size)

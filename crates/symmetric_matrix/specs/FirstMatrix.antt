@@ -16,7 +16,8 @@ abbrev pub first_minimum : ℕ → ℤ
 first_minimum n = if nat_eq n 1 then pos 1 else pos 2
 
 abbrev pub first_entry : ℕ → Place → ℤ
-first_entry n c = if nat_eq c.row c.column then first_minimum n else (if nat_eq c.row (c.column + 1) then negsuc 0 else pos 0)
+first_entry n c =
+    if nat_eq c.row c.column then first_minimum n else (if nat_eq c.row (c.column + 1) then negsuc 0 else pos 0)
 
 unfoldable pub first_matrix : ℕ → Symmetric
 first_matrix n = record { size = n; lower = map (first_entry n) (triangle_places n) }

@@ -12,7 +12,8 @@ pub record IsVector (x : List ℕ) : Type 0 where
   pub small : (p : ℕ) → p < length x → slice_index x p ≤ 2 ^ 62
 
 pub record IsVectorList (list : List (List ℕ)) : Type 0 where
-  pub one_length : (k l : ℕ) → k < length list → l < length list → length (slice_index_or list k []) ≡ length (slice_index_or list l [])
+  pub one_length : (k l : ℕ) → k < length list → l < length list
+      → length (slice_index_or list k []) ≡ length (slice_index_or list l [])
   pub increasing : IsIncreasing list
 
 pub record CanFollow (list : List (List ℕ)) (x : List ℕ) : Type 0 where

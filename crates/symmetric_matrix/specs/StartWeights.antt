@@ -30,7 +30,8 @@ unfoldable pub start_coordinates : ℕ → (ℕ → ℕ → ℤ) → ℕ → ℕ
 start_coordinates n q d k = ratio (slice_index_or (start_weights n q) k (pos 0)) d
 
 abbrev pub StartWeightsWrite : Type 0
-StartWeightsWrite = (n : ℕ) (q : ℕ → ℕ → ℤ) (d : ℕ) → 0 < d → IsSymmetric n q → AreCoordinates n (start_list n) (start_coordinates n q d) (λ i j. ratio (q i j) d)
+StartWeightsWrite = (n : ℕ) (q : ℕ → ℕ → ℤ) (d : ℕ) → 0 < d → IsSymmetric n q
+    → AreCoordinates n (start_list n) (start_coordinates n q d) (λ i j. ratio (q i j) d)
 
 abbrev pub StartMatricesAreIndependent : Type 0
 StartMatricesAreIndependent = (n : ℕ) → AreIndependent n (start_list n)

@@ -45,8 +45,12 @@ pub(crate) fn combine_lower(
 ) -> Result<Vec<i128>, Fail>
     requires lower { IsLower n lower.now }
     requires other { IsLower n other.now }
-    ensures ok { IfOk result (λ sums. AreCombined q (record { size = n; lower = lower.now }) p (record { size = n; lower = other.now }) sums.items) }
-    ensures refused { IfErr result (λ fail. IsCombineRefused q (record { size = n; lower = lower.now }) p (record { size = n; lower = other.now }) fail) }
+    ensures ok { IfOk result
+        (λ sums. AreCombined q (record { size = n; lower = lower.now }) p (record { size = n; lower = other.now })
+        sums.items) }
+    ensures refused { IfErr result
+        (λ fail. IsCombineRefused q (record { size = n; lower = lower.now }) p
+        (record { size = n; lower = other.now }) fail) }
 {
     let mut sums = Vec::with_capacity(alloc, lower.len())?;
     for k in 0..lower.len() {
@@ -60,7 +64,9 @@ pub(crate) fn combine_lower(
 
 // q·left + p·right
 fn combine_entry(q: i128, left: i128, p: i128, right: i128) -> Result<i128, IntOp>
-    ensures { result ≡ answer is_owed (mul_op q left ∷ mul_op p right ∷ add_op (q *ℤ left) (p *ℤ right) ∷ []) (q *ℤ left +ℤ p *ℤ right) }
+    ensures { result
+        ≡ answer is_owed (mul_op q left ∷ mul_op p right ∷ add_op (q *ℤ left) (p *ℤ right) ∷ [])
+        (q *ℤ left +ℤ p *ℤ right) }
 {
     let first = int_mul(q, left)?;
     let second = int_mul(p, right)?;

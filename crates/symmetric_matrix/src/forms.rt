@@ -70,7 +70,9 @@ fn weight_at(x: &[u64], row: usize, column: usize) -> i128
     requires vector { IsVector x.now }
     requires row { row < length x.now }
     requires column { column < length x.now }
-    ensures { result ≡ pos (multiplicity (record { row = row; column = column }) * (slice_index x.now row * slice_index x.now column)) }
+    ensures { result
+        ≡ pos (multiplicity (record { row = row; column = column })
+        * (slice_index x.now row * slice_index x.now column)) }
 {
     let product = u128::from(x[row]) * u128::from(x[column]);
     let times: u128 = if row == column { 1 } else { 2 };
@@ -88,7 +90,9 @@ pub fn add_product(sum: i128, left: i128, right: i128) -> Result<i128, IntOp>
 
 // sum + left * (times * right), where the product in brackets is made first
 fn add_multiple(sum: i128, left: i128, times: i128, right: i128) -> Result<i128, IntOp>
-    ensures { result ≡ answer is_owed (mul_op times right ∷ mul_op left (times *ℤ right) ∷ add_op sum (left *ℤ (times *ℤ right)) ∷ []) (sum +ℤ left *ℤ (times *ℤ right)) }
+    ensures { result
+        ≡ answer is_owed (mul_op times right ∷ mul_op left (times *ℤ right) ∷ add_op sum (left *ℤ (times *ℤ right))
+        ∷ []) (sum +ℤ left *ℤ (times *ℤ right)) }
 {
     let multiple = int_mul(times, right)?;
     add_product(sum, left, multiple)

@@ -85,7 +85,8 @@ impl SymInt {
     /// To a sum from 0 it adds, entry by entry of the lower triangle, Q_ij times x_i·x_j, which is doubled beside the diagonal.
     pub fn form(&self, x: &IntVector) -> Result<i128, IntOp>
         requires { length x.now ≡ self.now.size }
-        ensures value { result ≡ answer is_owed (form_ops self.now x.now) (form self.now.size (entry self.now) (coordinate x.now)) }
+        ensures value { result
+            ≡ answer is_owed (form_ops self.now x.now) (form self.now.size (entry self.now) (coordinate x.now)) }
         ensures fits { IfOk result FitsInt }
     {
         form_of(self.lower.as_slice(), x.as_slice())
@@ -96,7 +97,9 @@ impl SymInt {
     /// To a sum from 0 it adds, entry by entry of the lower triangle, Q_ij times m·S_ij, where m is 1 on the diagonal and else 2.
     pub fn inner(&self, other: &SymInt) -> Result<i128, IntOp>
         requires { self.now.size ≡ other.now.size }
-        ensures value { result ≡ answer is_owed (inner_ops self.now other.now) (inner self.now.size (entry self.now) (entry other.now)) }
+        ensures value { result
+            ≡ answer is_owed (inner_ops self.now other.now)
+            (inner self.now.size (entry self.now) (entry other.now)) }
         ensures fits { IfOk result FitsInt }
     {
         inner_of(self.size, self.lower.as_slice(), other.lower.as_slice())

@@ -1,5 +1,6 @@
 -- A fraction that is written is read as that fraction.
-use Rattle.std.proofs.Common.{◌≡◌, ℕ, ◌+◌, ◌-◌, ◌<◌, ◌≤◌, ◌^◌, Bool, true, false, not, ◌&&◌, ltb, eqb, List, [], ◌∷◌, ◌++◌, length, drop, position, Some, None, ℤ, Result, Ok, refl, sym, ap, subst, ◌∙◌, inl, inr, arith, eq-eqb}
+use Rattle.std.proofs.Common.{◌≡◌, ℕ, ◌+◌, ◌-◌, ◌<◌, ◌≤◌, ◌^◌, Bool, true, false, not, ◌&&◌, ltb, eqb, List, [], ◌∷◌, ◌++◌, length, drop, position, Some, None}
+use Rattle.std.proofs.Common.{ℤ, Result, Ok, refl, sym, ap, subst, ◌∙◌, inl, inr, arith, eq-eqb}
 use Rattle.std.specs.Prelude.{nat_abs}
 use Rattle.std.specs.List.{All, list_all, position_or_len}
 use Rattle.std.specs.Fmt.{decimal, signed_decimal}
@@ -9,6 +10,7 @@ use Rattle.std.proofs.Math.Seq.{take-append_seam, drop-append-add, get_or-append
 use Rattle.std.proofs.lemmas.List.Sums.{position_or_len_is, AllPass-from_list_all}
 use Rattle.std.proofs.lemmas.List.Elements.{All-append, All-cons, All-weaker}
 use Rattle.std.proofs.lemmas.Fmt.{decimal_digit}
+use Rattle.commutative_ring.proofs.SmallCases.{not_true}
 use Rattle.exact_forms.specs.Rational.{Rational}
 use Rattle.exact_forms.proofs.Rational.{ratio_parts, den_positive}
 use Rattle.text_lines.specs.Lines.{is_blank, is_line_feed}
@@ -16,7 +18,8 @@ use Rattle.text_lines.specs.Numbers.{whole_value, magnitude}
 use Rattle.text_lines.specs.Fractions.{is_slash, whole_up_to, signed_up_to, ratio_up_to, fraction_up_to}
 use Rattle.text_lines.specs.Spelling.{quotient_word, fraction_word}
 use Rattle.text_lines.specs.declared.fractions.NumberFault.{NumberFault}
-use Rattle.text_lines.proofs.Numerals.{is_whole-decimal, whole_value-decimal, is_signed-decimal, magnitude-decimal, signed_value-decimal, All-decimal, All-signed, some-decimal, some-signed}
+use Rattle.text_lines.proofs.Numerals.{is_whole-decimal, whole_value-decimal, is_signed-decimal, magnitude-decimal, signed_value-decimal, All-decimal}
+use Rattle.text_lines.proofs.Numerals.{All-signed, some-decimal, some-signed}
 
 -- the limit has at most 127 bits, and both numbers are at most as large
 pub record IsWithin (limit : ℕ) (q : Rational) : Type 0 where
@@ -60,7 +63,15 @@ ratio-read limit q h =
     let positive = den_positive q in
     let large : ltb limit (magnitude (signed_decimal q.num)) ≡ false = rw (magnitude-decimal q.num s.0) (le-ltb limit (nat_abs q.num) h.num) in
     let long : ltb limit (whole_value (decimal q.den)) ≡ false = rw (whole_value-decimal q.den s.1) (le-ltb limit q.den h.den) in
-    rw (is_signed-decimal q.num s.0, is_whole-decimal q.den s.1, large, long, whole_value-decimal q.den s.1, ne_eqb q.den 0 (λ e. omega (arith, positive)), signed_value-decimal q.num s.0)
+    rw (
+      is_signed-decimal q.num s.0,
+      is_whole-decimal q.den s.1,
+      large,
+      long,
+      whole_value-decimal q.den s.1,
+      ne_eqb q.den 0 (λ e. omega (arith, positive)),
+      signed_value-decimal q.num s.0,
+    )
     (ap made (ratio_parts q))
   where
     made : Rational → Result Rational NumberFault
@@ -74,8 +85,10 @@ pub quotient-read : (limit : ℕ) (q : Rational) → IsWithin limit q → fracti
 unfolding fraction_up_to
 quotient-read limit q h =
     let s = wide-numbers limit q h in
-    let at : position is_slash (signed_decimal q.num ++ 47 ∷ decimal q.den) ≡ Some (length (signed_decimal q.num)) = position-at is_slash (signed_decimal q.num) 47 (decimal q.den) (All-signed (λ b. is_slash b ≡ false) refl no_slash q.num s.0) refl in
-    let below : drop (length (signed_decimal q.num) + 1) (signed_decimal q.num ++ 47 ∷ decimal q.den) ≡ decimal q.den = drop-append-add (signed_decimal q.num) (47 ∷ decimal q.den) 1 in
+    let at : position is_slash (signed_decimal q.num ++ 47 ∷ decimal q.den) ≡ Some (length (signed_decimal q.num)) =
+    position-at is_slash (signed_decimal q.num) 47 (decimal q.den) (All-signed (λ b. is_slash b ≡ false) refl no_slash q.num s.0) refl in
+    let below : drop (length (signed_decimal q.num) + 1) (signed_decimal q.num ++ 47 ∷ decimal q.den) ≡ decimal q.den =
+    drop-append-add (signed_decimal q.num) (47 ∷ decimal q.den) 1 in
     rw (at, take-append_seam (signed_decimal q.num) (47 ∷ decimal q.den), below) (ratio-read limit q h)
 
 pub fraction-read : (limit : ℕ) (q : Rational) → IsWithin limit q → fraction_up_to limit (fraction_word q) ≡ Ok q
@@ -86,7 +99,8 @@ fraction-read limit q h =
       | inl whole ↦ (
           let one : decimal 1 ≡ 49 ∷ [] = decimal_digit 1 (omega arith) in
           let plain = position-none is_slash (signed_decimal q.num) (All-signed (λ b. is_slash b ≡ false) refl no_slash q.num s.0) in
-          rw (eq-eqb q.den 1 whole, plain) (ap (ratio_up_to limit (signed_decimal q.num)) (sym one) ∙ subst (λ (d : ℕ). ratio_up_to limit (signed_decimal q.num) (decimal d) ≡ Ok q) whole (ratio-read limit q h)))
+          rw (eq-eqb q.den 1 whole, plain) (ap (ratio_up_to limit (signed_decimal q.num)) (sym one)
+          ∙ subst (λ (d : ℕ). ratio_up_to limit (signed_decimal q.num) (decimal d) ≡ Ok q) whole (ratio-read limit q h)))
       | inr other ↦ rw (ne_eqb q.den 1 other) (quotient-read limit q h)
     ]
 
@@ -96,7 +110,8 @@ fraction-read limit q h =
 pub All-quotient : (P : ℕ → Type 0) → P 45 → P 47 → ((b : ℕ) → 48 ≤ b → b ≤ 57 → P b) → (limit : ℕ) (q : Rational) → IsWithin limit q → All P (quotient_word q)
 All-quotient P minus slash digit limit q h =
     let s = wide-numbers limit q h in
-    All-append P (signed_decimal q.num) (47 ∷ decimal q.den) (All-signed P minus digit q.num s.0) (All-cons P 47 (decimal q.den) slash (All-decimal P digit q.den s.1))
+    All-append P (signed_decimal q.num) (47 ∷ decimal q.den) (All-signed P minus digit q.num s.0)
+    (All-cons P 47 (decimal q.den) slash (All-decimal P digit q.den s.1))
 
 pub All-fraction : (P : ℕ → Type 0) → P 45 → P 47 → ((b : ℕ) → 48 ≤ b → b ≤ 57 → P b) → (limit : ℕ) (q : Rational) → IsWithin limit q → All P (fraction_word q)
 unfolding fraction_word
@@ -107,7 +122,8 @@ All-fraction P minus slash digit limit q h =
     ]
 
 pub some-quotient : (limit : ℕ) (q : Rational) → IsWithin limit q → 0 < length (quotient_word q)
-some-quotient limit q h = let some = some-signed q.num (wide-numbers limit q h).0 in rw (length-append (signed_decimal q.num) (47 ∷ decimal q.den)) (omega (arith, some))
+some-quotient limit q h = let some = some-signed q.num (wide-numbers limit q h).0 in
+    rw (length-append (signed_decimal q.num) (47 ∷ decimal q.den)) (omega (arith, some))
 
 pub some-fraction : (limit : ℕ) (q : Rational) → IsWithin limit q → 0 < length (fraction_word q)
 unfolding fraction_word
@@ -164,19 +180,15 @@ is_plain_byte b = not (is_blank b) && not (is_line_feed b) && ltb b 128 && not (
 pub plain-codes : (word : List ℕ) → (not (eqb (length word) 0) && list_all is_plain_byte word) ≡ true → IsPlainWord word
 plain-codes word h =
     let parts = and_parts (not (eqb (length word) 0)) (list_all is_plain_byte word) h in
-    let some : eqb (length word) 0 ≡ false = not-true (eqb (length word) 0) parts.0 in
+    let some : eqb (length word) 0 ≡ false = not_true (eqb (length word) 0) parts.0 in
     record {
       some = (let no : length word ≡ 0 → ⊥ = λ e. false≢true (sym some ∙ eq-eqb (length word) 0 e) in omega (arith, no));
       plain = All-weaker (λ b. is_plain_byte b ≡ true) IsPlain each word (AllPass-from_list_all is_plain_byte word parts.1);
     }
   where
-    not-true : (b : Bool) → not b ≡ true → b ≡ false
-    not-true true e = absurd cc
-    not-true false e = refl
-
     each : (b : ℕ) → is_plain_byte b ≡ true → IsPlain b
     each b e =
         let one = and_parts _ _ e in
         let two = and_parts _ _ one.0 in
         let three = and_parts _ _ two.0 in
-        record { blank = not-true (is_blank b) three.0; line_feed = not-true (is_line_feed b) three.1; ascii = two.1; comment = not-true (eqb b 35) one.1 }
+        record { blank = not_true (is_blank b) three.0; line_feed = not_true (is_line_feed b) three.1; ascii = two.1; comment = not_true (eqb b 35) one.1 }

@@ -17,7 +17,8 @@ signed-good limit word z m low signed mag small is =
     let large : ltb limit (magnitude word) ≡ false = le-ltb limit (magnitude word) (omega arith) in
     rw (signed, large, is, a) refl
 
-pub ratio-good : (limit : ℕ) (top bottom : List ℕ) (num : ℤ) (m den : ℕ) → limit < 2 ^ 127 → is_signed top ≡ true → is_whole bottom ≡ true → m ≡ min (magnitude top) (2 ^ 128 - 1) → den ≡ min (whole_value bottom) (2 ^ 128 - 1)
+pub ratio-good : (limit : ℕ) (top bottom : List ℕ) (num : ℤ) (m den : ℕ) → limit < 2 ^ 127 → is_signed top ≡ true → is_whole bottom ≡ true
+    → m ≡ min (magnitude top) (2 ^ 128 - 1) → den ≡ min (whole_value bottom) (2 ^ 128 - 1)
     → m ≤ limit → den ≤ limit → (den ≡ 0 → ⊥) → num ≡ cond (begins_with_minus top) (neg_ℤ (pos m)) (pos m) → ratio_up_to limit top bottom ≡ Ok (ratio num den)
 unfolding ratio_up_to signed_value
 ratio-good limit top bottom num m den low signed whole mag val small short some is =

@@ -1,5 +1,6 @@
 -- A table is compared with its mirror image, place by place, and its lower triangle is taken.
-use Rattle.std.proofs.Common.{◌≡◌, ℕ, zero, suc, ◌+◌, ◌-◌, ◌<◌, ◌≤◌, Bool, true, false, List, [], ◌∷◌, ◌++◌, length, get_or, take, Some, None, find, refl, sym, append_assoc, arith}
+use Rattle.std.proofs.Common.{◌≡◌, ℕ, zero, suc, ◌+◌, ◌-◌, ◌<◌, ◌≤◌, Bool, true, false, List, [], ◌∷◌, ◌++◌, length, get_or, take, Some, None, find, refl, sym}
+use Rattle.std.proofs.Common.{append_assoc, arith}
 use Rattle.std.specs.List.{AllByRecursion, list_all, range_with_len}
 use Rattle.std.proofs.lemmas.List.{length-take-le, take_more, take_all, append-nil}
 use Rattle.text_lines.specs.Square.{entry_at, lower_from, lower_of}
@@ -34,16 +35,19 @@ lower_more n (first ∷ rows) row =
     rw (k, lower_more (n + 1) rows row) (sym (append_assoc (take n first) (lower_from (n + 1) rows) (take (n + 1 + length rows) row)))
 
 -- an entry more of a row
-pub front_more : {A : Type 0} (none : A) (rows : List (List A)) (i j : ℕ) (x : A) (old mid new : List A) → j < length (get_or rows i []) → x ≡ entry_at none rows i j → mid ≡ old ++ take j (get_or rows i []) → new ≡ mid ++ x ∷ [] → new ≡ old ++ take (j + 1) (get_or rows i [])
+pub front_more : {A : Type 0} (none : A) (rows : List (List A)) (i j : ℕ) (x : A) (old mid new : List A) → j < length (get_or rows i [])
+    → x ≡ entry_at none rows i j → mid ≡ old ++ take j (get_or rows i []) → new ≡ mid ++ x ∷ [] → new ≡ old ++ take (j + 1) (get_or rows i [])
 unfolding entry_at
-front_more none rows i j x old mid new lt is e f = rw (f, e, take_more (get_or rows i []) j none lt, ← is) (append_assoc old (take j (get_or rows i [])) (x ∷ []))
+front_more none rows i j x old mid new lt is e f =
+    rw (f, e, take_more (get_or rows i []) j none lt, ← is) (append_assoc old (take j (get_or rows i [])) (x ∷ []))
 
 -- no row yet, one row more, and all rows
 pub lower_none : {A : Type 0} (new : List A) → new ≡ [] → new ≡ lower_of []
 unfolding lower_from
 lower_none new e = e
 
-pub lower_step : {A : Type 0} (rows : List (List A)) (i : ℕ) (old new : List A) → i < length rows → old ≡ lower_of (take i rows) → new ≡ old ++ take (i + 1) (get_or rows i []) → new ≡ lower_of (take (i + 1) rows)
+pub lower_step : {A : Type 0} (rows : List (List A)) (i : ℕ) (old new : List A) → i < length rows → old ≡ lower_of (take i rows)
+    → new ≡ old ++ take (i + 1) (get_or rows i []) → new ≡ lower_of (take (i + 1) rows)
 lower_step rows i old new lt e f =
     let len : length (take i rows) ≡ i = length-take-le i rows (omega arith) in
     let count : 1 + i ≡ i + 1 = omega arith in

@@ -62,7 +62,9 @@ signed_value-decimal (negsuc n) h = rw (magnitude-decimal (negsuc n) h) refl
 
 -- what holds of the minus sign and of digits holds of each byte of a number
 pub All-decimal : (P : ℕ → Type 0) (digit : (b : ℕ) → 48 ≤ b → b ≤ 57 → P b) (n : ℕ) → n < 2 ^ 128 → All P (decimal n)
-All-decimal P digit n h = All-from_get_or P (decimal n) 0 (λ i lt. let r = digit_at (decimal n) i (own.to (decimal n) (digits_decimal n h)) lt in digit (get_or (decimal n) i 0) (omega (arith, r)) (omega (arith, r)))
+All-decimal P digit n h =
+    All-from_get_or P (decimal n) 0 (λ i lt. let r = digit_at (decimal n) i (own.to (decimal n) (digits_decimal n h)) lt in
+    digit (get_or (decimal n) i 0) (omega (arith, r)) (omega (arith, r)))
 
 pub All-signed : (P : ℕ → Type 0) (minus : P 45) (digit : (b : ℕ) → 48 ≤ b → b ≤ 57 → P b) (z : ℤ) → nat_abs z < 2 ^ 128 → All P (signed_decimal z)
 All-signed P minus digit (pos n) h = All-decimal P digit n h

@@ -33,7 +33,8 @@ are_words (w ∷ ws) h = (is_word w h.0, are_words ws h.1)
 All-joined : (P : ℕ → Type 0) → P 32 → ((b : ℕ) → IsPlain b → P b) → (ws : List (List ℕ)) → AllByRecursion IsPlainWord ws → All P (joined ws)
 All-joined P space each [] h = All-nil P
 All-joined P space each (w ∷ []) h = All-weaker IsPlain P each w h.0.plain
-All-joined P space each (w ∷ v ∷ ws) h = All-append P w (32 ∷ joined (v ∷ ws)) (All-weaker IsPlain P each w h.0.plain) (All-cons P 32 (joined (v ∷ ws)) space (All-joined P space each (v ∷ ws) h.1))
+All-joined P space each (w ∷ v ∷ ws) h =
+    All-append P w (32 ∷ joined (v ∷ ws)) (All-weaker IsPlain P each w h.0.plain) (All-cons P 32 (joined (v ∷ ws)) space (All-joined P space each (v ∷ ws) h.1))
 
 pub words-joined : (ws : List (List ℕ)) → AllByRecursion IsPlainWord ws → words (joined ws) ≡ ws
 words-joined ws h = words-join ws (are_words ws h)
@@ -42,7 +43,8 @@ ascii-joined : (ws : List (List ℕ)) → AllByRecursion IsPlainWord ws → is_a
 ascii-joined ws h = list_all-from_AllPass (λ b. ltb b 128) (joined ws) (All-joined (λ b. ltb b 128 ≡ true) refl (λ b p. p.ascii) ws h)
 
 -- a line of words gives what is read of the words
-pub in_line-joined : {A K F : Type 0} (fault : K → ℕ → F) (foreign : K) (read : List (List ℕ) → Result A K) (k : ℕ) (ws : List (List ℕ)) → AllByRecursion IsPlainWord ws
+pub in_line-joined : {A K F : Type 0} (fault : K → ℕ → F) (foreign : K) (read : List (List ℕ) → Result A K) (k : ℕ) (ws : List (List ℕ))
+    → AllByRecursion IsPlainWord ws
     → in_line fault foreign read (record { number = k; bytes = joined ws }) ≡ at_line fault k (read ws)
 unfolding in_line
 in_line-joined fault foreign read k ws h = rw (ascii-joined ws h, words-joined ws h) refl
@@ -72,7 +74,8 @@ text-lines text h = ap lines (lines-joined text) ∙ lines-ended (map joined tex
 pub content-numbered : (k : ℕ) (text : List (List (List ℕ))) → AllByRecursion IsPlainLine text → content_from k (map joined text) ≡ numbered k text
 unfolding content_from
 content-numbered k [] h = refl
-content-numbered k (ws ∷ text) h = rw (kept-joined ws h.0) (ap (λ (more : List TextLine). record { number = k; bytes = joined ws } ∷ more) (content-numbered (k + 1) text h.1))
+content-numbered k (ws ∷ text) h =
+    rw (kept-joined ws h.0) (ap (λ (more : List TextLine). record { number = k; bytes = joined ws } ∷ more) (content-numbered (k + 1) text h.1))
 
 -- a text of lines of plain words has these lines
 pub content_lines-written : (text : List (List (List ℕ))) → AllByRecursion IsPlainLine text → content_lines (flat_map line_of_words text) ≡ numbered 1 text

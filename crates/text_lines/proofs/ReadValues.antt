@@ -1,5 +1,6 @@
 -- What is known of a value that was read.
-use Rattle.std.proofs.Common.{◌≡◌, ℕ, zero, suc, ◌+◌, ◌<◌, ◌≤◌, ◌^◌, Bool, true, false, not, ◌&&◌, ◌||◌, cond, ltb, List, [], ◌∷◌, length, take, drop, position, Option, Some, None, ℤ, pos, neg_ℤ, nat_abs, Result, Ok, Err, codes, refl, sym, ap, subst, ◌∙◌, arith, eq-eqb}
+use Rattle.std.proofs.Common.{◌≡◌, ℕ, zero, suc, ◌+◌, ◌<◌, ◌≤◌, ◌^◌, Bool, true, false, not, ◌&&◌, ◌||◌, cond, ltb, List, [], ◌∷◌, length, take, drop, position}
+use Rattle.std.proofs.Common.{Option, Some, None, ℤ, pos, neg_ℤ, nat_abs, Result, Ok, Err, codes, refl, sym, ap, subst, ◌∙◌, arith, eq-eqb}
 use Rattle.std.specs.List.{AllByRecursion}
 use Rattle.std.proofs.lemmas.Bool.{or_parts, and_parts, ltb-false, false≢true}
 use Rattle.std.proofs.Math.Nat.{div-le_self}
@@ -67,7 +68,8 @@ words-within limit top bottom x low e =
     let bottom_small : whole_value bottom ≤ limit = ltb-false _ _ parts.1 in
     let some : whole_value bottom ≡ 0 → ⊥ = λ zero. false≢true (sym z.0 ∙ eq-eqb (whole_value bottom) 0 zero) in
     let num : nat_abs (signed_value top) ≤ limit = rw (magnitude-value (begins_with_minus top) (magnitude top)) top_small in
-    subst (IsWithin limit) (ok_is {E = NumberFault} (ratio (signed_value top) (whole_value bottom)) x z.1) (ratio-within limit (signed_value top) (whole_value bottom) low num bottom_small some)
+    subst (IsWithin limit) (ok_is {E = NumberFault} (ratio (signed_value top) (whole_value bottom)) x z.1)
+    (ratio-within limit (signed_value top) (whole_value bottom) low num bottom_small some)
 
 parted-within : (limit : ℕ) (word : List ℕ) (at : Option ℕ) (x : Rational) → limit < 2 ^ 127 → parted limit word at ≡ Ok x → IsWithin limit x
 parted-within limit word None x low e = words-within limit word (codes "1") x low e
@@ -104,7 +106,8 @@ ascii-ok : {A K : Type 0} (b : Bool) (foreign : K) (r : Result A K) (x : A) → 
 ascii-ok true foreign r x e = e
 ascii-ok false foreign r x e = absurd cc
 
-pub line-ok : {A K F : Type 0} (fault : K → ℕ → F) (foreign : K) (read : List (List ℕ) → Result A K) (line : TextLine) (x : A) → in_line fault foreign read line ≡ Ok x → read (words line.bytes) ≡ Ok x
+pub line-ok : {A K F : Type 0} (fault : K → ℕ → F) (foreign : K) (read : List (List ℕ) → Result A K) (line : TextLine) (x : A)
+    → in_line fault foreign read line ≡ Ok x → read (words line.bytes) ≡ Ok x
 unfolding in_line
 line-ok fault foreign read line x e = ascii-ok (is_ascii line.bytes) foreign (read (words line.bytes)) x (at_line-ok fault line.number _ x e)
 
@@ -120,9 +123,12 @@ first-ok {A} {F} P read missing good (l ∷ ls) first e =
 pub many-each : {A F : Type 0} (P : A → Type 0) (read : TextLine → Result A F) (missing : F) → ((line : TextLine) (x : A) → read line ≡ Ok x → P x)
     → (k : ℕ) (ls : List TextLine) (m : Many A) → many read missing k ls ≡ Ok m → IsEach P k m.items
 unfolding many
-many-each {A} {F} P read missing good zero ls m e = subst (λ (m : Many A). IsEach P 0 m.items) (ok_is {E = F} (record { items = []; rest = ls }) m e) (record { len = refl; each = tt })
+many-each {A} {F} P read missing good zero ls m e =
+    subst (λ (m : Many A). IsEach P 0 m.items) (ok_is {E = F} (record { items = []; rest = ls }) m e) (record { len = refl; each = tt })
 many-each {A} {F} P read missing good (suc k) ls m e =
-    let a = bind_ok (first_line read missing ls) (λ first. many read missing k first.1 >>= λ others. Ok (record { items = first.0 ∷ others.items; rest = others.rest })) m e in
+    let a = bind_ok (first_line read missing ls) (λ first. many read missing k first.1
+    >>= λ others. Ok (record { items = first.0 ∷ others.items; rest = others.rest })) m e in
     let b = bind_ok (many read missing k a.0.1) (λ others. Ok (record { items = a.0.0 ∷ others.items; rest = others.rest })) m a.2 in
     let rest = many-each P read missing good k a.0.1 b.0 b.1 in
-    subst (λ (m : Many A). IsEach P (suc k) m.items) (ok_is {E = F} (record { items = a.0.0 ∷ b.0.items; rest = b.0.rest }) m b.2) (record { len = ap suc rest.len; each = (first-ok P read missing good ls a.0 a.1, rest.each) })
+    subst (λ (m : Many A). IsEach P (suc k) m.items) (ok_is {E = F} (record { items = a.0.0 ∷ b.0.items; rest = b.0.rest }) m b.2)
+    (record { len = ap suc rest.len; each = (first-ok P read missing good ls a.0 a.1, rest.each) })

@@ -33,7 +33,8 @@ pub join_push : (ws : List (List ℕ)) (w : List ℕ) → join_with_byte 32 (ws 
 unfolding spaced_word
 join_push [] w = refl
 join_push (v ∷ []) w = refl
-join_push (v ∷ u ∷ ws) w = ap (λ t. v ++ 32 ∷ t) (join_push (u ∷ ws) w) ∙ sym (append_assoc v (32 ∷ join_with_byte 32 (u ∷ ws)) (spaced_word (length (u ∷ ws)) w))
+join_push (v ∷ u ∷ ws) w = ap (λ t. v ++ 32 ∷ t) (join_push (u ∷ ws) w)
+    ∙ sym (append_assoc v (32 ∷ join_with_byte 32 (u ∷ ws)) (spaced_word (length (u ∷ ws)) w))
 
 -- the words of the first columns
 unfoldable pub columns : (ℕ → List ℕ) → ℕ → List ℕ
@@ -43,7 +44,8 @@ pub column_none : (word : ℕ → List ℕ) (old : List ℕ) → old ≡ old ++ 
 unfolding columns
 column_none word old = sym (append-nil old)
 
-pub column_more : (word : ℕ → List ℕ) (j : ℕ) (text old mid new : List ℕ) → text ≡ word j → mid ≡ old ++ columns word j → new ≡ mid ++ spaced_word j text → new ≡ old ++ columns word (j + 1)
+pub column_more : (word : ℕ → List ℕ) (j : ℕ) (text old mid new : List ℕ) → text ≡ word j → mid ≡ old ++ columns word j → new ≡ mid ++ spaced_word j text
+    → new ≡ old ++ columns word (j + 1)
 unfolding columns
 column_more word j text old mid new is e f =
     let len : length (map word (range_with_len 0 j)) ≡ j = length-map-range_with_len word 0 j in
@@ -53,7 +55,8 @@ column_more word j text old mid new is e f =
     ∙ ap (λ (k : ℕ). join_with_byte 32 (map word (range_with_len 0 j)) ++ spaced_word k (word j)) len in
     rw (f, e, joined, is) (append_assoc old (join_with_byte 32 (map word (range_with_len 0 j))) (spaced_word j (word j)))
 
-pub column_end : (word : ℕ → List ℕ) (n : ℕ) (old mid new : List ℕ) → mid ≡ old ++ columns word n → new ≡ mid ++ 10 ∷ [] → new ≡ old ++ line_of_words (map word (range_with_len 0 n))
+pub column_end : (word : ℕ → List ℕ) (n : ℕ) (old mid new : List ℕ) → mid ≡ old ++ columns word n → new ≡ mid ++ 10 ∷ []
+    → new ≡ old ++ line_of_words (map word (range_with_len 0 n))
 unfolding columns
 column_end word n old mid new e f = rw (f, e) (append_assoc old (join_with_byte 32 (map word (range_with_len 0 n))) (10 ∷ []))
 
@@ -74,7 +77,9 @@ pub spaced_none : (old : List ℕ) → old ≡ old ++ spaced []
 unfolding spaced
 spaced_none old = sym (append-nil old)
 
-pub spaced_more : (front : List (List ℕ)) (w old mid one new : List ℕ) → mid ≡ old ++ spaced front → one ≡ mid ++ 32 ∷ [] → new ≡ one ++ w → new ≡ old ++ spaced (front ++ w ∷ [])
+pub spaced_more : (front : List (List ℕ)) (w old mid one new : List ℕ) → mid ≡ old ++ spaced front → one ≡ mid ++ 32 ∷ [] → new ≡ one ++ w
+    → new ≡ old ++ spaced (front ++ w ∷ [])
 unfolding spaced
 spaced_more front w old mid one new e f g =
-    rw (g, f, e) (append_assoc (old ++ spaced front) (32 ∷ []) w ∙ append_assoc old (spaced front) (32 ∷ w) ∙ ap (λ (t : List ℕ). old ++ t) (flat_map_more (λ (v : List ℕ). 32 ∷ v) [] front w))
+    rw (g, f, e) (append_assoc (old ++ spaced front) (32 ∷ []) w ∙ append_assoc old (spaced front) (32 ∷ w)
+    ∙ ap (λ (t : List ℕ). old ++ t) (flat_map_more (λ (v : List ℕ). 32 ∷ v) [] front w))

@@ -55,7 +55,8 @@ at_line fault line (Ok x) = Ok x
 at_line fault line (Err kind) = Err (fault kind line)
 
 unfoldable pub in_line : {A K F : Type 0} → (K → ℕ → F) → K → (List (List ℕ) → Result A K) → TextLine → Result A F
-in_line fault foreign read line = at_line fault line.number (if is_ascii line.bytes then read (words line.bytes) else Err foreign)
+in_line fault foreign read line =
+    at_line fault line.number (if is_ascii line.bytes then read (words line.bytes) else Err foreign)
 
 -- ---- the lines of a text
 

@@ -50,7 +50,8 @@ impl<'a> ContentLines<'a> {
     /// The next content line, or the end line's number where there is none.
     #[tactic(auto, using(crate::proofs::LineLemmas::content_steps))]
     pub fn next(&mut self) -> Result<TextLine<'a>, u32>
-        ensures line { MatchResult result (λ line. self.old.lines ≡ line_of line ∷ self.new.lines) (λ end. (self.old.lines ≡ []) × (end ≡ self.old.end)) }
+        ensures line { MatchResult result (λ line. self.old.lines ≡ line_of line ∷ self.new.lines)
+            (λ end. (self.old.lines ≡ []) × (end ≡ self.old.end)) }
         ensures end { self.new.end ≡ self.old.end }
     {
         while let Some((line, rest)) = first_line(self.rest) {

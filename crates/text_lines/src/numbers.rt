@@ -6,7 +6,8 @@ ghost use Rattle.text_lines.specs.Numbers.{is_whole, whole_value, is_signed, mag
 /// The number that a whole word writes, one or more digits, or 2^128 - 1 where it is larger; `None` for any other word.
 #[tactic(auto, using(crate::proofs::NumberLemmas::digit_steps))]
 pub fn whole_number(word: &[u8]) -> Option<u128>
-    ensures { MatchOption result (is_whole word.now ≡ false) (λ n. (is_whole word.now ≡ true) × (n ≡ min (whole_value word.now) (2 ^ 128 - 1))) }
+    ensures { MatchOption result (is_whole word.now ≡ false) (λ n. (is_whole word.now ≡ true)
+        × (n ≡ min (whole_value word.now) (2 ^ 128 - 1))) }
 {
     if word.is_empty() {
         return None;
@@ -43,7 +44,8 @@ fn split_minus(word: &[u8]) -> (bool, &[u8])
 /// magnitude is 2^128 - 1 where it is larger.
 #[tactic(auto, unfolding(crate::specs::Numbers::is_signed, crate::specs::Numbers::magnitude))]
 pub fn signed_number(word: &[u8]) -> Option<Signed>
-    ensures { MatchOption result (is_signed word.now ≡ false) (λ n. (is_signed word.now ≡ true) × (n.negative ≡ begins_with_minus word.now) × (n.magnitude ≡ min (magnitude word.now) (2 ^ 128 - 1))) }
+    ensures { MatchOption result (is_signed word.now ≡ false) (λ n. (is_signed word.now ≡ true)
+        × (n.negative ≡ begins_with_minus word.now) × (n.magnitude ≡ min (magnitude word.now) (2 ^ 128 - 1))) }
 {
     let (negative, digits) = split_minus(word);
     let magnitude = whole_number(digits)?;

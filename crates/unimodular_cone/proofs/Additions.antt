@@ -2,8 +2,9 @@
 use Rattle.std.specs.Prelude.{◌⊎◌, ◌≡◌, ◌≢◌, ℕ, ℤ, ◌+ℤ◌}
 use Rattle.std.proofs.Common.{arith, sym, ◌∙◌, ap, ap₂, refl, inl, inr}
 use Rattle.std.proofs.lemmas.Int.{ints}
+use Rattle.commutative_ring.proofs.SmallCases.{same_or_not}
 use Rattle.exact_forms.specs.Forms.{bilinear}
-use Rattle.exact_forms.proofs.Slacks.{same_or_not, replaced_here, replaced_other}
+use Rattle.exact_forms.proofs.Slacks.{replaced_here, replaced_other}
 use Rattle.exact_forms.proofs.Forms.{bilinear-add_left, bilinear-add_right}
 use Rattle.unimodular_cone.specs.Cones.{Matrix, Generators, gram, child, child_gram}
 
@@ -38,7 +39,8 @@ pub gram-child : (n : ℕ) (q : Matrix) (v : Generators) (i j k l : ℕ) → gra
 gram-child n q v i j k l = columns (same_or_not l i)
   where
     rows : (l : ℕ) → ((k ≡ i) ⊎ (k ≢ i)) → bilinear n q (child v i j k) (v l) ≡ child (gram n q v) i j k l
-    rows l (inl e) = ap (λ (f : ℕ → ℤ). bilinear n q f (v l)) (replaced_here v i (λ p. v i p +ℤ v j p) k e) ∙ bilinear-add_left n q (v i) (v j) (v l) ∙ sym (child_row (gram n q v) i j k l e)
+    rows l (inl e) = ap (λ (f : ℕ → ℤ). bilinear n q f (v l)) (replaced_here v i (λ p. v i p +ℤ v j p) k e) ∙ bilinear-add_left n q (v i) (v j) (v l)
+        ∙ sym (child_row (gram n q v) i j k l e)
     rows l (inr ne) = ap (λ (f : ℕ → ℤ). bilinear n q f (v l)) (replaced_other v i (λ p. v i p +ℤ v j p) k ne) ∙ sym (child_row_other (gram n q v) i j k l ne)
 
     columns : ((l ≡ i) ⊎ (l ≢ i)) → gram n q (child v i j) k l ≡ child_gram (gram n q v) i j k l
@@ -61,6 +63,8 @@ child_gram_mirror g i j k l s = by (same_or_not k i) (same_or_not l i)
 
     by : ((k ≡ i) ⊎ (k ≢ i)) → ((l ≡ i) ⊎ (l ≢ i)) → child_gram g i j k l ≡ child_gram g i j l k
     by (inl e) (inl f) = ap₂ (λ (a : ℕ) (b : ℕ). child_gram g i j a b) (e ∙ sym f) (f ∙ sym e)
-    by (inl e) (inr nl) = ap (λ (a : ℕ). child_gram g i j a l) e ∙ child_gram_row g i j l nl ∙ ap₂ (λ (a : ℤ) (b : ℤ). a +ℤ b) (s i l) (s j l) ∙ sym (child_gram_column g i j l nl) ∙ ap (λ (a : ℕ). child_gram g i j l a) (sym e)
-    by (inr nk) (inl f) = ap (λ (a : ℕ). child_gram g i j k a) f ∙ child_gram_column g i j k nk ∙ ap₂ (λ (a : ℤ) (b : ℤ). a +ℤ b) (s k i) (s k j) ∙ sym (child_gram_row g i j k nk) ∙ ap (λ (a : ℕ). child_gram g i j a k) (sym f)
+    by (inl e) (inr nl) = ap (λ (a : ℕ). child_gram g i j a l) e ∙ child_gram_row g i j l nl ∙ ap₂ (λ (a : ℤ) (b : ℤ). a +ℤ b) (s i l) (s j l)
+        ∙ sym (child_gram_column g i j l nl) ∙ ap (λ (a : ℕ). child_gram g i j l a) (sym e)
+    by (inr nk) (inl f) = ap (λ (a : ℕ). child_gram g i j k a) f ∙ child_gram_column g i j k nk ∙ ap₂ (λ (a : ℤ) (b : ℤ). a +ℤ b) (s k i) (s k j)
+        ∙ sym (child_gram_row g i j k nk) ∙ ap (λ (a : ℕ). child_gram g i j a k) (sym f)
     by (inr nk) (inr nl) = child_gram_other g i j k l nk nl ∙ s k l ∙ sym (child_gram_other g i j l k nl nk)

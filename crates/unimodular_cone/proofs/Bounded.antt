@@ -76,7 +76,8 @@ none_of n P decide without = by (first_below n P decide)
     by (inr none) = none
 
 pub fits_or_first_over : (n : ℕ) (q : Matrix) (v : Generators) → Fits n q v ⊎ ((entry : WideEntry) × IsFirstOver n q v entry)
-fits_or_first_over n q v = by (first_below n (IsOverIn n q v) (λ k l. as_decided n _ (coordinates k))) (first_below n (IsOverInRow n q v) (λ i l. as_decided (suc i) _ (entries i)))
+fits_or_first_over n q v =
+    by (first_below n (IsOverIn n q v) (λ k l. as_decided n _ (coordinates k))) (first_below n (IsOverInRow n q v) (λ i l. as_decided (suc i) _ (entries i)))
   where
     coordinates : (k p : ℕ) → p < n → (pos (2 ^ 62) <ℤ v k p) ⊎ (¬ (pos (2 ^ 62) <ℤ v k p))
     coordinates k p l = lt_or_not_ℤ (pos (2 ^ 62)) (v k p)
@@ -91,7 +92,8 @@ fits_or_first_over n q v = by (first_below n (IsOverIn n q v) (λ k l. as_decide
         first (Coordinate zero p) before over = absurd over
         first (Coordinate (suc k) zero) before over = absurd over
         first (Coordinate (suc k) (suc p)) (inl lt) (a, b, over) = none_of n _ (coordinates k) (f.first k (omega arith)) p b over
-        first (Coordinate (suc k) (suc p)) (inr (e, lt)) (a, b, over) = f.holds.first p (omega arith) (subst (λ (w : ℕ). pos (2 ^ 62) <ℤ v w p) (let g : k ≡ f.at = omega arith in g) over)
+        first (Coordinate (suc k) (suc p)) (inr (e, lt)) (a, b, over) =
+            f.holds.first p (omega arith) (subst (λ (w : ℕ). pos (2 ^ 62) <ℤ v w p) (let g : k ≡ f.at = omega arith in g) over)
         first (Gram i j) before over = absurd before
 
     none_at : ((k : ℕ) → k < n → ¬ IsOverIn n q v k) → (k p : ℕ) → ¬ IsOverLimit n v (gram n q v) (Coordinate k p)
@@ -107,9 +109,11 @@ fits_or_first_over n q v = by (first_below n (IsOverIn n q v) (λ k l. as_decide
         first (Gram zero j) before over = absurd over
         first (Gram (suc i) zero) before over = absurd over
         first (Gram (suc i) (suc j)) (inl lt) (a, b, over) = none_of (suc i) _ (entries i) (f.first i (omega arith)) j (omega arith) over
-        first (Gram (suc i) (suc j)) (inr (e, lt)) (a, b, over) = f.holds.first j (omega arith) (subst (λ (w : ℕ). 2 ^ 100 < nat_abs (gram n q v w j)) (let g : i ≡ f.at = omega arith in g) over)
+        first (Gram (suc i) (suc j)) (inr (e, lt)) (a, b, over) =
+            f.holds.first j (omega arith) (subst (λ (w : ℕ). 2 ^ 100 < nat_abs (gram n q v w j)) (let g : i ≡ f.at = omega arith in g) over)
 
-    by : (FirstBelow n (IsOverIn n q v) ⊎ ((k : ℕ) → k < n → ¬ IsOverIn n q v k)) → (FirstBelow n (IsOverInRow n q v) ⊎ ((k : ℕ) → k < n → ¬ IsOverInRow n q v k))
+    by : (FirstBelow n (IsOverIn n q v) ⊎ ((k : ℕ) → k < n → ¬ IsOverIn n q v k))
+        → (FirstBelow n (IsOverInRow n q v) ⊎ ((k : ℕ) → k < n → ¬ IsOverInRow n q v k))
         → Fits n q v ⊎ ((entry : WideEntry) × IsFirstOver n q v entry)
     by (inl f) d = inr (Coordinate (suc f.at) (suc f.holds.at), coordinate f)
     by (inr none) (inl f) = inr (Gram (suc f.at) (suc f.holds.at), gram_entry none f)

@@ -36,7 +36,8 @@ take_same zero (x ∷ xs) [] none a b h = refl
 take_same zero (x ∷ xs) (y ∷ ys) none a b h = refl
 take_same (suc count) [] ys none a b h = absurd (omega (arith, a))
 take_same (suc count) (x ∷ xs) [] none a b h = absurd (omega (arith, b))
-take_same (suc count) (x ∷ xs) (y ∷ ys) none a b h = ap₂ (λ (z : _) (zs : _). z ∷ zs) (h 0 (omega arith)) (take_same count xs ys none (omega (arith, a)) (omega (arith, b)) (λ k l. h (suc k) (omega arith)))
+take_same (suc count) (x ∷ xs) (y ∷ ys) none a b h =
+    ap₂ (λ (z : _) (zs : _). z ∷ zs) (h 0 (omega arith)) (take_same count xs ys none (omega (arith, a)) (omega (arith, b)) (λ k l. h (suc k) (omega arith)))
 
 abbrev cone_with : ℕ → List Bool → List ℤ → List (List ℕ) → ShownCone
 cone_with n path l g = record { size = n; path = path; lower = l; generators = g }
@@ -48,8 +49,10 @@ pub same_shown : (c : Inside) (gram : List ℤ) (generators : List (List ℕ)) �
 same_shown c gram generators few lg lr copied rows =
     let top : triangle c.n ≤ triangle 8 = triangle_grows c.n 8 few in
     let e : triangle 8 ≡ 36 = triangle_8 in
-    let a : take (triangle c.n) gram ≡ take (triangle c.n) c.gram = take_same (triangle c.n) gram c.gram (pos 0) (omega (arith, top, e, copied.room)) (omega (arith, top, e, lg)) copied.same in
-    let b : take c.n generators ≡ take c.n c.generators = take_same c.n generators c.generators [] (omega (arith, rows.room, few)) (omega (arith, lr, few)) rows.same in
+    let a : take (triangle c.n) gram ≡ take (triangle c.n) c.gram =
+    take_same (triangle c.n) gram c.gram (pos 0) (omega (arith, top, e, copied.room)) (omega (arith, top, e, lg)) copied.same in
+    let b : take c.n generators ≡ take c.n c.generators =
+    take_same c.n generators c.generators [] (omega (arith, rows.room, few)) (omega (arith, lr, few)) rows.same in
     ap₂ (λ (l : List ℤ) (g : List (List ℕ)). cone_with c.n c.path l (map (take c.n) g)) a b
 
 pub copied_is_cone : (c : Inside) (gram : List ℤ) (generators : List (List ℕ)) → length c.gram ≡ 36 → IsCone c

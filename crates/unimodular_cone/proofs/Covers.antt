@@ -7,9 +7,11 @@ use Rattle.exact_forms.specs.Forms.{form, combination, IsSymmetric}
 use Rattle.exact_forms.specs.Slacks.{replaced, shortfall, slack, IsClosed, AreNonnegative}
 use Rattle.commutative_ring.proofs.Laws.{one_mul_ℤ, zero_mul_ℤ, mul_zero_ℤ}
 use Rattle.commutative_ring.proofs.Expand.{linear, times_one}
+use Rattle.commutative_ring.proofs.SmallCases.{apart_ways, same_or_not}
 use Rattle.exact_forms.proofs.Sums.{sum_to_same, sum_to_one, sum_to_none}
 use Rattle.exact_forms.proofs.Forms.{form_same, bilinear_symmetric}
-use Rattle.exact_forms.proofs.Slacks.{same_or_not, replaced_here, replaced_other, closed_bound, closed_at_zero, closed_equality, some_nonzero, child_zero_covers, child_coefficients_nonnegative, IsUnit, shortfall_of_nonneg, SomeNonzero}
+use Rattle.exact_forms.proofs.Slacks.{replaced_here, replaced_other, closed_bound, closed_at_zero, closed_equality, some_nonzero, child_zero_covers}
+use Rattle.exact_forms.proofs.Slacks.{child_coefficients_nonnegative, IsUnit, shortfall_of_nonneg, SomeNonzero}
 use Rattle.unimodular_cone.proofs.Pairs.{pair_of_some, pair_of_none}
 use Rattle.unimodular_cone.specs.Paths.{Path}
 pub use Rattle.unimodular_cone.specs.Theorems.{IsNonzeroBelow}
@@ -23,20 +25,24 @@ pub value_same : (n : ℕ) (q : Matrix) (x y : ℕ → ℤ) → ((p : ℕ) → p
 value_same n q x y e = form_same n q q x y (λ i j li lj. refl) e
 
 -- ---- a cone and its children
-pub lies_in_first : (n : ℕ) (v : Generators) (x : ℕ → ℤ) (i j : ℕ) → i < n → j < n → i ≢ j → (l : LiesIn n v x) → l.coefficients i ≤ℤ l.coefficients j → LiesIn n (child v i j) x
+pub lies_in_first : (n : ℕ) (v : Generators) (x : ℕ → ℤ) (i j : ℕ) → i < n → j < n → i ≢ j → (l : LiesIn n v x) → l.coefficients i ≤ℤ l.coefficients j
+    → LiesIn n (child v i j) x
 lies_in_first n v x i j li lj ne l le = record {
   coefficients = replaced l.coefficients j (l.coefficients j -ℤ l.coefficients i);
   nonnegative = child_coefficients_nonnegative n l.coefficients i j l.nonnegative le;
   same = λ p lp. child_zero_covers n v l.coefficients i j p li lj ne ∙ l.same p lp;
 }
 
-pub combination_lies_in_first : (n : ℕ) (v : Generators) (a : ℕ → ℤ) (i j : ℕ) → i < n → j < n → i ≢ j → AreNonnegative n a → a i ≤ℤ a j → LiesIn n (child v i j) (combination n a v)
-combination_lies_in_first n v a i j li lj ne nonneg le = lies_in_first n v (combination n a v) i j li lj ne (record { coefficients = a; nonnegative = nonneg; same = λ p lp. refl }) le
+pub combination_lies_in_first : (n : ℕ) (v : Generators) (a : ℕ → ℤ) (i j : ℕ) → i < n → j < n → i ≢ j → AreNonnegative n a → a i ≤ℤ a j
+    → LiesIn n (child v i j) (combination n a v)
+combination_lies_in_first n v a i j li lj ne nonneg le =
+    lies_in_first n v (combination n a v) i j li lj ne (record { coefficients = a; nonnegative = nonneg; same = λ p lp. refl }) le
 
 pub one_is_positive : (b : ℤ) → pos 1 ≤ℤ b → pos 0 ≤ℤ b
 one_is_positive b h = omega (arith, ints)
 
-pub lies_in_some_child : (n : ℕ) (v : Generators) (x : ℕ → ℤ) (i j : ℕ) → i < n → j < n → i ≢ j → LiesIn n v x → LiesIn n (child v i j) x ⊎ LiesIn n (child v j i) x
+pub lies_in_some_child : (n : ℕ) (v : Generators) (x : ℕ → ℤ) (i j : ℕ) → i < n → j < n → i ≢ j → LiesIn n v x
+    → LiesIn n (child v i j) x ⊎ LiesIn n (child v j i) x
 lies_in_some_child n v x i j li lj ne l = by (total_ℤ (l.coefficients i) (l.coefficients j))
   where
     by : ((l.coefficients i ≤ℤ l.coefficients j) ⊎ (l.coefficients j ≤ℤ l.coefficients i)) → LiesIn n (child v i j) x ⊎ LiesIn n (child v j i) x
@@ -61,11 +67,14 @@ lies_in_parent n v x i j li lj ne l = record {
     up = replaced l.coefficients j (l.coefficients j +ℤ l.coefficients i)
 
     up_nonnegative : (k : ℕ) → k < n → ((k ≡ j) ⊎ (k ≢ j)) → pos 0 ≤ℤ up k
-    up_nonnegative k lk (inl e) = rw (replaced_here a j (a j +ℤ a i) k e) (let u : pos 0 ≤ℤ a i = l.nonnegative i li in let w : pos 0 ≤ℤ a j = l.nonnegative j lj in omega (arith, linear))
+    up_nonnegative k lk (inl e) =
+        rw (replaced_here a j (a j +ℤ a i) k e) (let u : pos 0 ≤ℤ a i = l.nonnegative i li in let w : pos 0 ≤ℤ a j = l.nonnegative j lj in
+        omega (arith, linear))
     up_nonnegative k lk (inr nk) = rw (replaced_other a j (a j +ℤ a i) k nk) (l.nonnegative k lk)
 
     back : (k : ℕ) → ((k ≡ j) ⊎ (k ≢ j)) → replaced up j (up j -ℤ up i) k ≡ a k
-    back k (inl e) = replaced_here up j (up j -ℤ up i) k e ∙ ap₂ (λ (u : ℤ) (w : ℤ). u -ℤ w) (replaced_here a j (a j +ℤ a i) j refl) (replaced_other a j (a j +ℤ a i) i ne) ∙ less (a j) (a i) ∙ ap a (sym e)
+    back k (inl e) = replaced_here up j (up j -ℤ up i) k e
+        ∙ ap₂ (λ (u : ℤ) (w : ℤ). u -ℤ w) (replaced_here a j (a j +ℤ a i) j refl) (replaced_other a j (a j +ℤ a i) i ne) ∙ less (a j) (a i) ∙ ap a (sym e)
       where
         less : (u w : ℤ) → (u +ℤ w) -ℤ w ≡ u
         less u w = omega (arith, ints)
@@ -133,7 +142,8 @@ closed_attains n q v b x s positive closed l nonzero attained =
     (r.0, r.1.0, λ p lp. sym (l.same p lp) ∙ combination_unit n l.coefficients v r.0 p r.1)
 
 -- a cone with no negative entry beside the diagonal is closed at each bound of its values
-pub closed_without_pair : (n : ℕ) (q : Matrix) (v : Generators) (b : ℤ) → IsSymmetric n q → pair_of n (gram n q v) ≡ None → ((k : ℕ) → k < n → b ≤ℤ value n q v k) → IsClosed n (gram n q v) b
+pub closed_without_pair : (n : ℕ) (q : Matrix) (v : Generators) (b : ℤ) → IsSymmetric n q → pair_of n (gram n q v) ≡ None
+    → ((k : ℕ) → k < n → b ≤ℤ value n q v k) → IsClosed n (gram n q v) b
 unfolding slack
 closed_without_pair n q v b s none least i li =
     let g : Matrix = gram n q v in
@@ -142,11 +152,8 @@ closed_without_pair n q v b s none least i li =
     omega (arith, linear)
   where
     off : (j : ℕ) → j < n → j ≢ i → pos 0 ≤ℤ gram n q v i j
-    off j lj ne = side (order i j (λ e. ne (sym e)))
+    off j lj ne = side (apart_ways i j (λ e. ne (sym e)))
       where
-        order : (i j : ℕ) → i ≢ j → (i < j) ⊎ (j < i)
-        order i j ne = grind arith
-
         side : ((i < j) ⊎ (j < i)) → pos 0 ≤ℤ gram n q v i j
         side (inl lt) = pair_of_none n (gram n q v) none i j lt lj
         side (inr lt) = rw (bilinear_symmetric n q (v i) (v j) s) (pair_of_none n (gram n q v) none j i lt li)

@@ -1,6 +1,7 @@
 -- What a cone's fields show.
 use Rattle.std.specs.Prelude.{◌≡◌, ◌⊎◌, ℕ, zero, suc, ◌<◌, ◌≤◌, ◌+◌, max, min, pos, List, [], ◌∷◌, take, map, slice_index_or}
 use Rattle.std.proofs.Common.{arith, sym, ◌∙◌, ap, refl, inl, inr}
+use Rattle.commutative_ring.proofs.SmallCases.{at_least_or_below}
 use Rattle.exact_forms.specs.Triangles.{triangle}
 use Rattle.exact_forms.proofs.Triangles.{entry_in_below, entry_before}
 use Rattle.unimodular_cone.specs.declared.cone.Cone.TheInside.{Inside}
@@ -33,14 +34,12 @@ coordinate_shown c k p lk lp =
 
 pub gram_shown : (c : Inside) (i j : ℕ) → j ≤ i → i < c.n → shown_gram (shown_of c) i j ≡ slice_index_or c.gram (triangle i + j) (pos 0)
 unfolding shown_gram
-gram_shown c i j le li = entry_in_below (pos 0) (take (triangle c.n) c.gram) i j le ∙ at-take c.gram (triangle c.n) (triangle i + j) (pos 0) (entry_before i j c.n le li)
+gram_shown c i j le li = entry_in_below (pos 0) (take (triangle c.n) c.gram) i j le
+    ∙ at-take c.gram (triangle c.n) (triangle i + j) (pos 0) (entry_before i j c.n le li)
 
-order : (i j : ℕ) → (j ≤ i) ⊎ (i < j)
-order i j = grind arith
-
--- at a row and a column in either order
+-- at a row and a column in either at_least_or_below
 pub gram_placed : (c : Inside) (i j : ℕ) → i < c.n → j < c.n → slice_index_or c.gram (triangle (max i j) + min i j) (pos 0) ≡ shown_gram (shown_of c) i j
-gram_placed c i j li lj = by (order i j)
+gram_placed c i j li lj = by (at_least_or_below i j)
   where
     by : ((j ≤ i) ⊎ (i < j)) → slice_index_or c.gram (triangle (max i j) + min i j) (pos 0) ≡ shown_gram (shown_of c) i j
     by (inl le) =

@@ -25,3 +25,8 @@ pub mod RootCopies
 pub mod Roots
 pub mod Ways
 pub mod Copies
+pub mod NarrowSums
+pub mod NarrowParts
+pub mod NarrowChildren
+pub mod NarrowRoots
+pub mod NarrowReplaced

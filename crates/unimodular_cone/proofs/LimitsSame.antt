@@ -21,7 +21,8 @@ over_same n v w g h (Gram (suc i) zero) s over = over
 pub fits_same : (n : ℕ) (v w : Generators) (g h : Matrix) → SameBelow n v w g h → FitsLimits n v g → FitsLimits n w h
 fits_same n v w g h s fits entry over = fits entry (over_same n w v h g entry (same_back s) over)
 
-pub first_over_same : (n : ℕ) (v w : Generators) (g h : Matrix) (entry : WideEntry) → SameBelow n v w g h → IsFirstOverLimit n v g entry → IsFirstOverLimit n w h entry
+pub first_over_same : (n : ℕ) (v w : Generators) (g h : Matrix) (entry : WideEntry) → SameBelow n v w g h → IsFirstOverLimit n v g entry
+    → IsFirstOverLimit n w h entry
 first_over_same n v w g h entry s f = record {
   over = over_same n v w g h entry s f.over;
   first = λ other before over. f.first other before (over_same n w v h g other (same_back s) over);

@@ -3,12 +3,14 @@ use Rattle.std.specs.Prelude.{◌≡◌, ◌≢◌, ℕ, zero, suc, ◌<◌, ◌
 use Rattle.std.proofs.Common.{arith, sym, ◌∙◌, inl, inr, subst}
 use Rattle.std.proofs.lemmas.Int.{ints}
 use Rattle.std.specs.List.{Contains}
+use Rattle.commutative_ring.proofs.SmallCases.{same_or_below}
 use Rattle.exact_forms.specs.Forms.{form, IsSymmetric}
 use Rattle.exact_forms.specs.Slacks.{AreNonnegative}
 use Rattle.unimodular_cone.specs.Paths.{Path, IsAbove}
 use Rattle.unimodular_cone.specs.Cones.{Matrix, gram, value, cone_at, pair_of}
 use Rattle.unimodular_cone.specs.Tree.{Mode, Sign, Least, CanSplit, IsInTree, IsLowValue, IsLow, IsClosedAt, IsFinalBound, HasWideChild}
-use Rattle.unimodular_cone.specs.Answer.{coordinate, IsNonzero, IsLowVector, Attains, IsMinimum, IsCopositive, Found, Copositive, Low, IsSearchAnswer, IsClosedAnswer, IsListOf}
+use Rattle.unimodular_cone.specs.Answer.{coordinate, IsNonzero, IsLowVector, Attains, IsMinimum, IsCopositive, Found, Copositive, Low, IsSearchAnswer}
+use Rattle.unimodular_cone.specs.Answer.{IsClosedAnswer, IsListOf}
 use Rattle.unimodular_cone.proofs.Covers.{value_same, closed_at_least, closed_nonnegative, closed_without_pair, IsNonzeroBelow}
 use Rattle.unimodular_cone.proofs.Bounded.{closed_or_not}
 use Rattle.unimodular_cone.proofs.Generators.{listed, as_vector, proper}
@@ -20,7 +22,8 @@ pub not_low_Sign : (z : ℤ) → (¬ IsLowValue Sign z) → pos 0 ≤ℤ z
 not_low_Sign (pos n) h = omega (arith, ints)
 not_low_Sign (negsuc n) h = absurd (h (omega (arith, ints)))
 
-pub bound_is_below : (m : Mode) (n : ℕ) (q : Matrix) (d : ℕ) (b : ℤ) → IsFinalBound m n q d b → (path : Path) → IsInTree n q d path → (¬ IsLow m n q (cone_at n q path)) → (k : ℕ) → k < n → b ≤ℤ value n q (cone_at n q path) k
+pub bound_is_below : (m : Mode) (n : ℕ) (q : Matrix) (d : ℕ) (b : ℤ) → IsFinalBound m n q d b → (path : Path) → IsInTree n q d path
+    → (¬ IsLow m n q (cone_at n q path)) → (k : ℕ) → k < n → b ≤ℤ value n q (cone_at n q path) k
 bound_is_below Sign n q d b f path t clear k l = rw f (not_low_Sign _ (λ h. clear (k, l, h)))
 bound_is_below Least n q d b f path t clear k l = f.least path k t l
 
@@ -33,7 +36,8 @@ module _ (m : Mode) (n : ℕ) (q : Matrix) (d : ℕ) (b : ℤ) (s : IsSymmetric 
   step : (p : Path) → IsWayDown n q d b p → IsClosedAt n q p b ⊎ HasChildren n q (IsWayDown n q d b) p
   step p w = by (closed_or_not n (gram n q (cone_at n q p)) b)
     where
-      children : (i j : ℕ) → pair_of n (gram n q (cone_at n q p)) ≡ Some (i, j) → (¬ IsClosedAt n q p b) → length p < d → CanSplit n q (cone_at n q p) → HasChildren n q (IsWayDown n q d b) p
+      children : (i j : ℕ) → pair_of n (gram n q (cone_at n q p)) ≡ Some (i, j) → (¬ IsClosedAt n q p b) → length p < d → CanSplit n q (cone_at n q p)
+          → HasChildren n q (IsWayDown n q d b) p
       children i j e not_closed lt can = record {
         i = i;
         j = j;
@@ -49,18 +53,19 @@ module _ (m : Mode) (n : ℕ) (q : Matrix) (d : ℕ) (b : ℤ) (s : IsSymmetric 
       ends not_closed e = a.none_open p (record { in_tree = w.in_tree; ends = e; itself = not_closed; above = w.above })
 
       depth : (length p ≡ d) ⊎ (length p < d)
-      depth = let h : length p ≤ d = w.in_tree.short in split (length p) d h
-        where
-          split : (x y : ℕ) → x ≤ y → (x ≡ y) ⊎ (x < y)
-          split x y h = grind arith
+      depth = let h : length p ≤ d = w.in_tree.short in same_or_below (length p) d h
 
-      split : (¬ IsClosedAt n q p b) → (i j : ℕ) → pair_of n (gram n q (cone_at n q p)) ≡ Some (i, j) → ((length p ≡ d) ⊎ (length p < d)) → (HasWideChild n q p ⊎ CanSplit n q (cone_at n q p)) → HasChildren n q (IsWayDown n q d b) p
+      split : (¬ IsClosedAt n q p b) → (i j : ℕ) → pair_of n (gram n q (cone_at n q p)) ≡ Some (i, j) → ((length p ≡ d) ⊎ (length p < d))
+          → (HasWideChild n q p ⊎ CanSplit n q (cone_at n q p)) → HasChildren n q (IsWayDown n q d b) p
       split not_closed i j e (inl at_end) c = absurd (ends not_closed (inl at_end))
       split not_closed i j e (inr lt) (inl wide) = absurd (ends not_closed (inr wide))
       split not_closed i j e (inr lt) (inr can) = children i j e not_closed lt can
 
-      paired : (¬ IsClosedAt n q p b) → ((pair_of n (gram n q (cone_at n q p)) ≡ None) ⊎ ((i : ℕ) × (j : ℕ) × (pair_of n (gram n q (cone_at n q p)) ≡ Some (i, j)))) → IsClosedAt n q p b ⊎ HasChildren n q (IsWayDown n q d b) p
-      paired not_closed (inl none) = inl (closed_without_pair n q (cone_at n q p) b s none (bound_is_below m n q d b a.is_bound p w.in_tree (a.clear.none_low p w.in_tree)))
+      paired : (¬ IsClosedAt n q p b)
+          → ((pair_of n (gram n q (cone_at n q p)) ≡ None) ⊎ ((i : ℕ) × (j : ℕ) × (pair_of n (gram n q (cone_at n q p)) ≡ Some (i, j))))
+          → IsClosedAt n q p b ⊎ HasChildren n q (IsWayDown n q d b) p
+      paired not_closed (inl none) =
+          inl (closed_without_pair n q (cone_at n q p) b s none (bound_is_below m n q d b a.is_bound p w.in_tree (a.clear.none_low p w.in_tree)))
       paired not_closed (inr (i, j, e)) = inr (split not_closed i j e depth (wide_or_splits n q p i j e))
 
       by : (IsClosedAt n q p b ⊎ (¬ IsClosedAt n q p b)) → IsClosedAt n q p b ⊎ HasChildren n q (IsWayDown n q d b) p
@@ -91,7 +96,8 @@ not_low_Least (negsuc n) h = absurd (h (omega (arith, ints)))
 empty_contains : (x : List ℕ) → ¬ Contains [] x
 empty_contains x (k, l, e) = omega arith
 
-pub minimum_is : (n : ℕ) (q : Matrix) (d : ℕ) (b : ℤ) (vectors : List (List ℕ)) → IsSymmetric n q → IsSearchAnswer Least n q d (Found b vectors) → IsMinimum n q b vectors
+pub minimum_is : (n : ℕ) (q : Matrix) (d : ℕ) (b : ℤ) (vectors : List (List ℕ)) → IsSymmetric n q → IsSearchAnswer Least n q d (Found b vectors)
+    → IsMinimum n q b vectors
 minimum_is n q d b vectors s (_, a, lists) = record {
   positive = positive;
   least = least;
@@ -118,7 +124,8 @@ minimum_is n q d b vectors s (_, a, lists) = record {
         let v : ℕ → ℤ = cone_at n q path k in
         let x : List ℕ = listed n (λ p. nat_abs (v p)) in
         let h : IsListOf n x v = as_vector n v ((proper n q path).nonnegative k l) in
-        let attains : Attains n q b x = record { size = h.size; nonzero = nonzero_vector n x v h ((proper n q path).nonzero k l); value = value_same n q (coordinate x) v h.same ∙ e } in
+        let attains : Attains n q b x =
+        record { size = h.size; nonzero = nonzero_vector n x v h ((proper n q path).nonzero k l); value = value_same n q (coordinate x) v h.same ∙ e } in
         empty_contains x (subst (λ (w : List (List ℕ)). Contains w x) none (lists.all x attains))
 
 pub low_is : (m : Mode) (n : ℕ) (q : Matrix) (d : ℕ) (x : List ℕ) (z : ℤ) (path : Path) → IsSearchAnswer m n q d (Low x z path) → IsLowVector m n q x z

@@ -103,7 +103,8 @@ pub packed-depth_order : (m : ℕ) (d e : Path) → length d ≤ 64 * m → leng
 unfolding depth_order
 packed-depth_order m d e l r = by (nat_cmp (length d) (length e)) refl (slice_cmp nat_cmp (packed m d) (packed m e)) (packed-order m d e l r)
   where
-    by : (o : Ordering) → nat_cmp (length d) (length e) ≡ o → (w : Ordering) → ordering_then w (nat_cmp (length d) (length e)) ≡ place_order d e → ordering_then o w ≡ ordering_then o (place_order d e)
+    by : (o : Ordering) → nat_cmp (length d) (length e) ≡ o → (w : Ordering) → ordering_then w (nat_cmp (length d) (length e)) ≡ place_order d e
+        → ordering_then o w ≡ ordering_then o (place_order d e)
     by Less f w h = refl
     by Greater f w h = refl
     by Equal f Less h = h
@@ -114,13 +115,15 @@ packed-depth_order m d e l r = by (nat_cmp (length d) (length e)) refl (slice_cm
 at_most : (p : Inside) → IsPacked p → length (digits_of p) ≤ 64 * 4
 at_most p h = let l : p.len ≡ length (digits_of p) = len_is p h in let room : p.len ≤ 200 = h.room in omega arith
 
-pub fields-order : (p r : Inside) → IsPacked p → IsPacked r → ordering_then (slice_cmp nat_cmp p.words r.words) (nat_cmp p.len r.len) ≡ place_order (digits_of p) (digits_of r)
+pub fields-order : (p r : Inside) → IsPacked p → IsPacked r
+    → ordering_then (slice_cmp nat_cmp p.words r.words) (nat_cmp p.len r.len) ≡ place_order (digits_of p) (digits_of r)
 fields-order p r h k =
     ap₂ (λ (ws : List ℕ) (vs : List ℕ). ordering_then (slice_cmp nat_cmp ws vs) (nat_cmp p.len r.len)) (words_are p h) (words_are r k)
     ∙ ap₂ (λ (a : ℕ) (b : ℕ). ordering_then (slice_cmp nat_cmp (packed 4 (digits_of p)) (packed 4 (digits_of r))) (nat_cmp a b)) (len_is p h) (len_is r k)
     ∙ packed-order 4 (digits_of p) (digits_of r) (at_most p h) (at_most r k)
 
-pub fields-depth_order : (p r : Inside) → IsPacked p → IsPacked r → ordering_then (nat_cmp p.len r.len) (slice_cmp nat_cmp p.words r.words) ≡ depth_order (digits_of p) (digits_of r)
+pub fields-depth_order : (p r : Inside) → IsPacked p → IsPacked r
+    → ordering_then (nat_cmp p.len r.len) (slice_cmp nat_cmp p.words r.words) ≡ depth_order (digits_of p) (digits_of r)
 fields-depth_order p r h k =
     ap₂ (λ (ws : List ℕ) (vs : List ℕ). ordering_then (nat_cmp p.len r.len) (slice_cmp nat_cmp ws vs)) (words_are p h) (words_are r k)
     ∙ ap₂ (λ (a : ℕ) (b : ℕ). ordering_then (nat_cmp a b) (slice_cmp nat_cmp (packed 4 (digits_of p)) (packed 4 (digits_of r)))) (len_is p h) (len_is r k)

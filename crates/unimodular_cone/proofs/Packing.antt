@@ -1,10 +1,12 @@
 -- A path's digits in words, and back.
-use Rattle.std.specs.Prelude.{◌≡◌, ℕ, zero, suc, ◌<◌, ◌≤◌, ◌+◌, ◌-◌, ◌*◌, ◌/◌, ◌%◌, ◌^◌, nat_le, nat_eq, cond, Bool, true, false, List, [], ◌∷◌, ◌++◌, length, take, drop, slice_set, slice_index_or}
+use Rattle.std.specs.Prelude.{◌≡◌, ℕ, zero, suc, ◌<◌, ◌≤◌, ◌+◌, ◌-◌, ◌*◌, ◌/◌, ◌%◌, ◌^◌, nat_le, nat_eq, cond, Bool, true, false, List, [], ◌∷◌, ◌++◌, length}
+use Rattle.std.specs.Prelude.{take, drop, slice_set, slice_index_or}
 use Rattle.std.proofs.Common.{arith, sym, ◌∙◌, ap, ap₂, refl, subst, length-append, length-drop}
 use Rattle.std.proofs.Math.Nat.{pow-suc, add-mod_left, mod-eq_of_lt, div-eq_of_lt, mul-add-div, mul-add-mod_self_right}
 use Rattle.std.proofs.lemmas.Nat.{div-mul-add, pow-add, pow_below}
 use Rattle.std.proofs.lemmas.List.{get_or-drop, get_or-set_same}
 use Rattle.std.proofs.lemmas.Bool.Decides.{nat_tests}
+use Rattle.commutative_ring.proofs.SmallCases.{zero_plus}
 use Rattle.unimodular_cone.specs.declared.path.Path.TheInside.{Inside}
 use Rattle.unimodular_cone.specs.Paths.{digit_of}
 use Rattle.unimodular_cone.specs.PackedDigits.{binary, packed, unpacked, unpacked_words, digits_of, fields_of, IsPacked}
@@ -26,9 +28,6 @@ binary_none (suc k) = refl
 first_digit : (p m : ℕ) (b : Bool) → m < p → (nat_le p (cond b p 0 + m) ≡ b) × ((cond b p 0 + m) % p ≡ m)
 first_digit p m true h = (grind (arith, nat_tests), add-mod_left p m ∙ mod-eq_of_lt h)
 first_digit p m false h = (grind (arith, nat_tests), ap (λ (w : ℕ). w % p) (zero_plus m) ∙ mod-eq_of_lt h)
-  where
-    zero_plus : (m : ℕ) → 0 + m ≡ m
-    zero_plus m = omega arith
 
 -- the digits of the first k, then those of the rest
 unpacked-binary : (k : ℕ) (d rest : List Bool) → take (length (drop k d)) rest ≡ drop k d → take (length d) (unpacked k (binary k d) ++ rest) ≡ d
@@ -119,7 +118,8 @@ binary-digit (suc k) (suc r) e (b ∷ d) h =
     ∙ digit_later (2 ^ e) (2 ^ r) (binary k d) b (power_positive e)
     ∙ binary-digit k r e d (omega arith)
 
-pub packed-digit : (m i r : ℕ) (d : List Bool) → r < 64 → i < m → (slice_index_or (packed m d) i 0 / 2 ^ (63 - r)) % 2 ≡ digit_of (slice_index_or d (64 * i + r) false)
+pub packed-digit : (m i r : ℕ) (d : List Bool) → r < 64 → i < m
+    → (slice_index_or (packed m d) i 0 / 2 ^ (63 - r)) % 2 ≡ digit_of (slice_index_or d (64 * i + r) false)
 unfolding packed
 packed-digit zero i r d l h = absurd (omega arith)
 packed-digit (suc m) zero r d l h = let e : 64 * 0 + r ≡ r = omega arith in rw e (binary-digit 64 r (63 - r) d (omega arith))
@@ -163,7 +163,8 @@ pushed_words p word side h room bit at =
 pub pushed_fits : (p : Inside) (word side : ℕ) → IsPacked p → p.len < 200 → side < 2 → word ≡ p.len / 64 → pushed p word side < 2 ^ 64
 pushed_fits p word side h room bit at =
     let lw : length p.words ≡ 4 = ap length (words_are p h) ∙ length-packed 4 (digits_of p) in
-    let here : slice_index_or (slice_set p.words word (pushed p word side)) word 0 ≡ pushed p word side = get_or-set_same p.words word (pushed p word side) 0 (omega arith) in
+    let here : slice_index_or (slice_set p.words word (pushed p word side)) word 0 ≡ pushed p word side =
+    get_or-set_same p.words word (pushed p word side) 0 (omega arith) in
     let there : slice_index_or (packed 4 (digits_of p ++ nat_eq side 1 ∷ [])) word 0 < 2 ^ 64 = packed_below 4 word (digits_of p ++ nat_eq side 1 ∷ []) in
     subst (λ (w : ℕ). w < 2 ^ 64) (ap (λ (ws : List ℕ). slice_index_or ws word 0) (sym (pushed_words p word side h room bit at)) ∙ here) there
 

@@ -45,9 +45,6 @@ each n i j P old new k l s = by (seen_cases n i j k l s)
     by (inl h) = old k l h
     by (inr (e, f)) = subst (λ (x : ℕ). P x l) (sym e) (subst (λ (y : ℕ). P i y) (sym f) new)
 
-le_of_lt : (x y : ℤ) → x <ℤ y → x ≤ℤ y
-le_of_lt x y h = omega (arith, ints)
-
 -- (i, j) is one more place
 weighed : (n : ℕ) (g : Matrix) (i j : ℕ) (b : Option (ℕ × ℕ)) → i < j → j < n → IsBest n g i j b → IsBest n g i (suc j) (lesser_pair g b i j)
 weighed n g i j None lt lj h = by (int_lt (g i j) (pos 0)) refl
@@ -57,7 +54,8 @@ weighed n g i j None lt lj h = by (int_lt (g i j) (pos 0)) refl
       here n i j lt lj,
       less,
       each n i j (λ k l. g i j ≤ℤ g k l) (λ k l s. let o : pos 0 ≤ℤ g k l = h k l s in omega (arith, ints)) (omega (arith, ints)),
-      each n i j (λ k l. g k l ≡ g i j → (i < k) ⊎ ((i ≡ k) × (j ≤ l))) (λ k l s same. let o : pos 0 ≤ℤ g k l = h k l s in absurd (omega (arith, ints))) (λ _. inr (refl, omega arith)),
+      each n i j (λ k l. g k l ≡ g i j → (i < k) ⊎ ((i ≡ k) × (j ≤ l))) (λ k l s same. let o : pos 0 ≤ℤ g k l = h k l s in
+          absurd (omega (arith, ints))) (λ _. inr (refl, omega arith)),
     )
     by false e = each n i j (λ k l. pos 0 ≤ℤ g k l) h (test_false _ _ e)
 weighed n g i j (Some (a, b)) lt lj h = by (int_lt (g i j) (g a b)) refl
@@ -67,7 +65,8 @@ weighed n g i j (Some (a, b)) lt lj h = by (int_lt (g i j) (g a b)) refl
       here n i j lt lj,
       omega (arith, ints),
       each n i j (λ k l. g i j ≤ℤ g k l) (λ k l s. let o : g a b ≤ℤ g k l = h.2 k l s in omega (arith, ints)) (omega (arith, ints)),
-      each n i j (λ k l. g k l ≡ g i j → (i < k) ⊎ ((i ≡ k) × (j ≤ l))) (λ k l s same. let o : g a b ≤ℤ g k l = h.2 k l s in absurd (omega (arith, ints))) (λ _. inr (refl, omega arith)),
+      each n i j (λ k l. g k l ≡ g i j → (i < k) ⊎ ((i ≡ k) × (j ≤ l))) (λ k l s same. let o : g a b ≤ℤ g k l = h.2 k l s in
+          absurd (omega (arith, ints))) (λ _. inr (refl, omega arith)),
     )
     by false e = (
       later n i j a b h.0,
@@ -80,7 +79,8 @@ row_best : (n : ℕ) (g : Matrix) (i j : ℕ) (b : Option (ℕ × ℕ)) → j �
 row_best n g i zero b le h = h
 row_best n g i (suc j) b le h = by (ltb i j) refl (row_best n g i j b (omega arith) h)
   where
-    by : (t : Bool) → ltb i j ≡ t → IsBest n g i j (best_in_row g i j b) → IsBest n g i (suc j) (cond t (lesser_pair g (best_in_row g i j b) i j) (best_in_row g i j b))
+    by : (t : Bool) → ltb i j ≡ t → IsBest n g i j (best_in_row g i j b)
+        → IsBest n g i (suc j) (cond t (lesser_pair g (best_in_row g i j b) i j) (best_in_row g i j b))
     by true e r = weighed n g i j (best_in_row g i j b) (grind arith) (omega arith) r
     by false e r = skipped n g i j (best_in_row g i j b) (grind arith) r
 
@@ -143,7 +143,9 @@ none_is n g all = by (pair_or_none n g)
   where
     by : ((pair_of n g ≡ None) ⊎ ((k : ℕ) × (l : ℕ) × (pair_of n g ≡ Some (k, l)))) → pair_of n g ≡ None
     by (inl none) = none
-    by (inr (k, l, e)) = absurd (let p : IsPair n g k l = pair_of_some n g k l e in let h : pos 0 ≤ℤ g k l = all k l p.order p.range in let w : g k l <ℤ pos 0 = p.negative in omega (arith, ints))
+    by (inr (k, l, e)) =
+        absurd (let p : IsPair n g k l = pair_of_some n g k l e in let h : pos 0 ≤ℤ g k l = all k l p.order p.range in let w : g k l <ℤ pos 0 = p.negative in
+        omega (arith, ints))
 
 -- the pair looks at the places above the diagonal alone
 pub pair_same : (n : ℕ) (g h : Matrix) → ((k l : ℕ) → k < l → l < n → g k l ≡ h k l) → pair_of n g ≡ pair_of n h

@@ -16,12 +16,15 @@ below_8 P a b c d e f g h (suc (suc (suc (suc (suc (suc (suc zero))))))) l = h
 below_8 P a b c d e f g h (suc (suc (suc (suc (suc (suc (suc (suc k)))))))) l = absurd (omega arith)
 
 abbrev pub places : List (List ℕ)
-places = (0 ∷ 1 ∷ 3 ∷ 6 ∷ 10 ∷ 15 ∷ 21 ∷ 28 ∷ []) ∷ (1 ∷ 2 ∷ 4 ∷ 7 ∷ 11 ∷ 16 ∷ 22 ∷ 29 ∷ []) ∷ (3 ∷ 4 ∷ 5 ∷ 8 ∷ 12 ∷ 17 ∷ 23 ∷ 30 ∷ []) ∷ (6 ∷ 7 ∷ 8 ∷ 9 ∷ 13 ∷ 18 ∷ 24 ∷ 31 ∷ []) ∷ (10 ∷ 11 ∷ 12 ∷ 13 ∷ 14 ∷ 19 ∷ 25 ∷ 32 ∷ []) ∷ (15 ∷ 16 ∷ 17 ∷ 18 ∷ 19 ∷ 20 ∷ 26 ∷ 33 ∷ []) ∷ (21 ∷ 22 ∷ 23 ∷ 24 ∷ 25 ∷ 26 ∷ 27 ∷ 34 ∷ []) ∷ (28 ∷ 29 ∷ 30 ∷ 31 ∷ 32 ∷ 33 ∷ 34 ∷ 35 ∷ []) ∷ []
+places = (0 ∷ 1 ∷ 3 ∷ 6 ∷ 10 ∷ 15 ∷ 21 ∷ 28 ∷ []) ∷ (1 ∷ 2 ∷ 4 ∷ 7 ∷ 11 ∷ 16 ∷ 22 ∷ 29 ∷ []) ∷ (3 ∷ 4 ∷ 5 ∷ 8 ∷ 12 ∷ 17 ∷ 23 ∷ 30 ∷ [])
+    ∷ (6 ∷ 7 ∷ 8 ∷ 9 ∷ 13 ∷ 18 ∷ 24 ∷ 31 ∷ []) ∷ (10 ∷ 11 ∷ 12 ∷ 13 ∷ 14 ∷ 19 ∷ 25 ∷ 32 ∷ []) ∷ (15 ∷ 16 ∷ 17 ∷ 18 ∷ 19 ∷ 20 ∷ 26 ∷ 33 ∷ [])
+    ∷ (21 ∷ 22 ∷ 23 ∷ 24 ∷ 25 ∷ 26 ∷ 27 ∷ 34 ∷ []) ∷ (28 ∷ 29 ∷ 30 ∷ 31 ∷ 32 ∷ 33 ∷ 34 ∷ 35 ∷ []) ∷ []
 
 abbrev IsPlaceAt : ℕ → ℕ → Type 0
 IsPlaceAt row column = slice_index_or (slice_index_or places row []) column 0 ≡ triangle (max row column) + min row column
 
-in_row : (row : ℕ) → IsPlaceAt row 0 → IsPlaceAt row 1 → IsPlaceAt row 2 → IsPlaceAt row 3 → IsPlaceAt row 4 → IsPlaceAt row 5 → IsPlaceAt row 6 → IsPlaceAt row 7 → (column : ℕ) → column < 8 → IsPlaceAt row column
+in_row : (row : ℕ) → IsPlaceAt row 0 → IsPlaceAt row 1 → IsPlaceAt row 2 → IsPlaceAt row 3 → IsPlaceAt row 4 → IsPlaceAt row 5 → IsPlaceAt row 6
+    → IsPlaceAt row 7 → (column : ℕ) → column < 8 → IsPlaceAt row column
 in_row row = below_8 (IsPlaceAt row)
 
 pub place_read : (row column : ℕ) → row < 8 → column < 8 → IsPlaceAt row column

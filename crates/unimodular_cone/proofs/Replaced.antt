@@ -1,9 +1,10 @@
 -- The numbers of a child, made from its parent's.
-use Rattle.std.specs.Prelude.{◌≡◌, ◌≢◌, ◌⊎◌, ℕ, ◌<◌, ◌≤◌, ◌+◌, ℤ, pos, ◌+ℤ◌, FitsSigned, List, [], length, slice_index_or, slice_set}
+use Rattle.std.specs.Prelude.{◌≡◌, ◌≢◌, ◌⊎◌, ℕ, ◌<◌, ◌≤◌, ◌+◌, ℤ, pos, ◌+ℤ◌, List, [], length, slice_index_or, slice_set}
 use Rattle.std.specs.Int.{w128}
 use Rattle.std.proofs.Common.{arith, to_z, of_z, sym, ◌∙◌, ap, ap₂, refl, inl, inr, subst, get_or-set_other, get_or-set_same}
+use Rattle.commutative_ring.proofs.SmallCases.{at_least_or_below, same_or_not}
 use Rattle.exact_forms.specs.Triangles.{triangle}
-use Rattle.exact_forms.proofs.Slacks.{same_or_not, replaced_here, replaced_other}
+use Rattle.exact_forms.proofs.Slacks.{replaced_here, replaced_other}
 use Rattle.unimodular_cone.specs.declared.cone.Cone.TheInside.{Inside}
 use Rattle.unimodular_cone.specs.Paths.{Path}
 use Rattle.unimodular_cone.specs.Cones.{child, child_gram}
@@ -14,14 +15,23 @@ use Rattle.unimodular_cone.specs.Replacement.{IsRowSet, IsChildWith}
 use Rattle.unimodular_cone.proofs.Additions.{child_gram_other, child_gram_mirror}
 use Rattle.unimodular_cone.proofs.Fields.{coordinate_shown, gram_shown}
 use Rattle.unimodular_cone.proofs.LimitsSame.{fits_same, same_back}
-use Rattle.unimodular_cone.proofs.Mediants.{read_fits, read_sum, product_small, row_is}
+use Rattle.unimodular_cone.proofs.Mediants.{IsSumRead, read_both, product_small, row_is}
 use Rattle.unimodular_cone.proofs.RowSet.{row_set_corner}
 use Rattle.unimodular_cone.proofs.ShownLaws.{shown_gram_mirror}
 
+-- what the numbers d of a child show
+pub record IsChildMade (a : Inside) (r s : ℕ) (path : Path) (d : Inside) : Type 0 where
+  pub child : IsChildWith (shown_of a) r s path (shown_of d)
+  pub within : IsWithinLimits (shown_of a) → length path ≤ 200 → FitsWith (shown_of a) r s → IsWithinLimits (shown_of d)
+
+abbrev pub replaced : Inside → Path → ℕ → List ℕ → List ℤ → Inside
+replaced a path at xs new = record { n = a.n; path = path; gram = new; generators = slice_set a.generators at xs }
+
 module _ (a : Inside) (r s at : ℕ) (path : Path) (xs : List ℕ) (row new : List ℤ) (lr : r < a.n) (ls : s < a.n)
-    (hx : IsMediantOf (shown_of a) r s xs) (hrow : IsRowOf (shown_of a) r s row) (set : IsRowSet a.n r a.gram row new) (room : r < length a.generators) (here : at ≡ r) where
-  abbrev pub made : Inside
-  made = record { n = a.n; path = path; gram = new; generators = slice_set a.generators at xs }
+    (hx : IsMediantOf (shown_of a) r s xs) (hrow : IsRowOf (shown_of a) r s row) (set : IsRowSet a.n r a.gram row new) (room : r < length a.generators)
+    (here : at ≡ r) where
+  abbrev made : Inside
+  made = replaced a path at xs new
 
   coordinate_made : (k p : ℕ) → k < a.n → p < a.n → shown_generators (shown_of made) k p ≡ child (shown_generators (shown_of a)) r s k p
   coordinate_made k p lk lp = by (same_or_not k r)
@@ -29,14 +39,17 @@ module _ (a : Inside) (r s at : ℕ) (path : Path) (xs : List ℕ) (row new : Li
       by : ((k ≡ r) ⊎ (k ≢ r)) → shown_generators (shown_of made) k p ≡ child (shown_generators (shown_of a)) r s k p
       by (inl e) =
           ap pos (coordinate_shown made k p lk lp
-          ∙ ap (λ (w : List ℕ). slice_index_or w p 0) (ap₂ (λ (i : ℕ) (j : ℕ). slice_index_or (slice_set a.generators i xs) j []) here e ∙ get_or-set_same a.generators r xs [] room)
+          ∙ ap (λ (w : List ℕ). slice_index_or w p 0) (ap₂ (λ (i : ℕ) (j : ℕ). slice_index_or (slice_set a.generators i xs) j []) here e
+          ∙ get_or-set_same a.generators r xs [] room)
           ∙ hx.sums p lp)
-          ∙ ap (λ (f : ℕ → ℤ). f p) (sym (replaced_here (shown_generators (shown_of a)) r (λ p. shown_generators (shown_of a) r p +ℤ shown_generators (shown_of a) s p) k e))
+          ∙ ap (λ (f : ℕ → ℤ). f p)
+          (sym (replaced_here (shown_generators (shown_of a)) r (λ p. shown_generators (shown_of a) r p +ℤ shown_generators (shown_of a) s p) k e))
       by (inr ne) =
           ap pos (coordinate_shown made k p lk lp
           ∙ ap (λ (w : List ℕ). slice_index_or w p 0) (get_or-set_other a.generators at k xs [] (λ e. ne (e ∙ here)))
           ∙ sym (coordinate_shown a k p lk lp))
-          ∙ ap (λ (f : ℕ → ℤ). f p) (sym (replaced_other (shown_generators (shown_of a)) r (λ p. shown_generators (shown_of a) r p +ℤ shown_generators (shown_of a) s p) k ne))
+          ∙ ap (λ (f : ℕ → ℤ). f p)
+          (sym (replaced_other (shown_generators (shown_of a)) r (λ p. shown_generators (shown_of a) r p +ℤ shown_generators (shown_of a) s p) k ne))
 
   below : (k l : ℕ) → l ≤ k → k < a.n → shown_gram (shown_of made) k l ≡ child_gram (shown_gram (shown_of a)) r s k l
   below k l le lk = gram_shown made k l le lk ∙ by (same_or_not k r) (same_or_not l r)
@@ -56,56 +69,56 @@ module _ (a : Inside) (r s at : ℕ) (path : Path) (xs : List ℕ) (row new : Li
       by (inr ne) (inr nf) = set.elsewhere k l le ne nf ∙ sym (gram_shown a k l le lk) ∙ sym (child_gram_other (shown_gram (shown_of a)) r s k l ne nf)
 
   gram_made : (k l : ℕ) → k < a.n → l < a.n → shown_gram (shown_of made) k l ≡ child_gram (shown_gram (shown_of a)) r s k l
-  gram_made k l lk ll = by (order k l)
+  gram_made k l lk ll = by (at_least_or_below k l)
     where
-      order : (k l : ℕ) → (l ≤ k) ⊎ (k < l)
-      order k l = grind arith
-
       by : ((l ≤ k) ⊎ (k < l)) → shown_gram (shown_of made) k l ≡ child_gram (shown_gram (shown_of a)) r s k l
       by (inl le) = below k l le lk
-      by (inr lt) = shown_gram_mirror (shown_of made) k l ∙ below l k (omega arith) ll ∙ child_gram_mirror (shown_gram (shown_of a)) r s l k (shown_gram_mirror (shown_of a))
+      by (inr lt) = shown_gram_mirror (shown_of made) k l ∙ below l k (omega arith) ll
+          ∙ child_gram_mirror (shown_gram (shown_of a)) r s l k (shown_gram_mirror (shown_of a))
 
-  pub made_is_child : IsChildWith (shown_of a) r s path (shown_of made)
-  made_is_child = record { size = refl; path_is = refl; generators = coordinate_made; gram_is = gram_made }
-
-  pub made_is_within : IsWithinLimits (shown_of a) → length path ≤ 200 → FitsWith (shown_of a) r s → IsWithinLimits (shown_of made)
-  made_is_within w short fits = record {
-    some = w.some;
-    few = w.few;
-    short = short;
-    fits = fits_same a.n (child (shown_generators (shown_of a)) r s) (shown_generators (shown_of made)) (child_gram (shown_gram (shown_of a)) r s) (shown_gram (shown_of made))
-        (same_back (record { generators = coordinate_made; gram_is = gram_made })) fits;
+  pub child_made : IsChildMade a r s path made
+  child_made = record {
+    child = record { size = refl; path_is = refl; generators = coordinate_made; gram_is = gram_made };
+    within = λ w short fits. record {
+      some = w.some;
+      few = w.few;
+      short = short;
+      fits = fits_same a.n (child (shown_generators (shown_of a)) r s) (shown_generators (shown_of made)) (child_gram (shown_gram (shown_of a)) r s)
+          (shown_gram (shown_of made)) (same_back (record { generators = coordinate_made; gram_is = gram_made })) fits;
+    };
   }
 
 -- ---- the mediant's products are written, and then the entry on the diagonal
-module _ (a : Inside) (r s at here there : ℕ) (products new : List ℤ) (w : IsWithinLimits (shown_of a)) (lr : r < a.n) (ls : s < a.n) (h : AreProducts (shown_of a) r s products)
-    (set : IsRowSet a.n r a.gram products new) (place : at ≡ triangle r + r) (is : here ≡ r) (is' : there ≡ s) where
-  abbrev corner : ℤ
-  corner = shown_gram (shown_of a) r r +ℤ shown_gram (shown_of a) s r
+pub record IsPlaced (a : Inside) (r s at here there : ℕ) (products new : List ℤ) : Type 0 where
+  pub within : IsWithinLimits (shown_of a)
+  pub first : r < a.n
+  pub second : s < a.n
+  pub products_are : AreProducts (shown_of a) r s products
+  pub set : IsRowSet a.n r a.gram products new
+  pub place : at ≡ triangle r + r
+  pub here_is : here ≡ r
+  pub there_is : there ≡ s
 
-  abbrev beside : ℤ
-  beside = shown_gram (shown_of a) r s +ℤ shown_gram (shown_of a) s s
+abbrev pub written : List ℤ → List ℤ → ℕ → ℕ → ℤ
+written products new at there =
+    to_z w128 (of_z w128 (to_z w128 (of_z w128 (slice_index_or new at (pos 0))) +ℤ to_z w128 (of_z w128 (slice_index_or products there (pos 0)))))
 
-  abbrev written : ℤ
-  written = to_z w128 (of_z w128 (to_z w128 (of_z w128 (slice_index_or new at (pos 0))) +ℤ to_z w128 (of_z w128 (slice_index_or products there (pos 0)))))
+module _ (a : Inside) (r s at here there : ℕ) (products new : List ℤ) (g : IsPlaced a r s at here there products new) where
+  pub corner_read : IsSumRead (slice_index_or new at (pos 0)) (slice_index_or products there (pos 0))
+      ((shown_gram (shown_of a) r r +ℤ shown_gram (shown_of a) s r) +ℤ (shown_gram (shown_of a) r s +ℤ shown_gram (shown_of a) s s))
+  corner_read = read_both _ _ _ _ (ap (λ (k : ℕ). slice_index_or new k (pos 0)) g.place ∙ g.set.in_row r (omega arith) g.first ∙ g.products_are r g.first)
+      (ap (λ (k : ℕ). slice_index_or products k (pos 0)) g.there_is ∙ g.products_are s g.second)
+      (product_small (shown_of a) r s r g.within g.first g.second g.first) (product_small (shown_of a) r s s g.within g.first g.second g.second)
 
-  corner_is : slice_index_or new at (pos 0) ≡ corner
-  corner_is = ap (λ (k : ℕ). slice_index_or new k (pos 0)) place ∙ set.in_row r (omega arith) lr ∙ h r lr
+  pub row_written : length products ≡ 8 → IsRowOf (shown_of a) r s (slice_set products here (written products new at there))
+  row_written room =
+      row_is (shown_of a) r s here products (written products new at there) g.products_are (omega (arith, g.within.few, g.first)) g.here_is corner_read.is
 
-  beside_is : slice_index_or products there (pos 0) ≡ beside
-  beside_is = ap (λ (k : ℕ). slice_index_or products k (pos 0)) is' ∙ h s ls
-
-  pub corner_fits : FitsSigned w128 (to_z w128 (of_z w128 (slice_index_or new at (pos 0))) +ℤ to_z w128 (of_z w128 (slice_index_or products there (pos 0))))
-  corner_fits = read_fits _ _ corner beside corner_is beside_is (product_small (shown_of a) r s r w lr ls lr) (product_small (shown_of a) r s s w lr ls ls)
-
-  written_is : written ≡ corner +ℤ beside
-  written_is = read_sum _ _ corner beside corner_is beside_is (product_small (shown_of a) r s r w lr ls lr) (product_small (shown_of a) r s s w lr ls ls)
-
-  pub row_written : length products ≡ 8 → IsRowOf (shown_of a) r s (slice_set products here written)
-  row_written room = row_is (shown_of a) r s here products written h (omega (arith, w.few)) is written_is
-
-  pub corner_written : length products ≡ 8 → length a.gram ≡ 36 → IsRowSet a.n r a.gram (slice_set products here written) (slice_set new at written)
-  corner_written room size = row_set_corner a.n r at here a.gram products new written set size (omega (arith, w.few)) (omega (arith, w.few)) place is
+  pub corner_written : length products ≡ 8 → length a.gram ≡ 36
+      → IsRowSet a.n r a.gram (slice_set products here (written products new at there)) (slice_set new at (written products new at there))
+  corner_written room size =
+      row_set_corner a.n r at here a.gram products new (written products new at there) g.set size (omega (arith, g.first, g.within.few))
+      (omega (arith, g.first, g.within.few)) g.place g.here_is
 
 pub child_as : (a c d : ShownCone) (r s : ℕ) (path path' : Path) → a ≡ c → path ≡ path' → IsChildWith a r s path d → IsChildWith c r s path' d
 child_as a c d r s path path' e f h = subst (λ (x : ShownCone). IsChildWith x r s path' d) e (subst (λ (p : Path). IsChildWith a r s p d) f h)

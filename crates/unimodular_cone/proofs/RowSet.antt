@@ -1,8 +1,8 @@
 -- A row and a column of a lower triangle, set one place after the other.
 use Rattle.std.specs.Prelude.{◌≡◌, ◌≢◌, ◌⊎◌, ℕ, ◌<◌, ◌≤◌, ◌+◌, max, min, ℤ, pos, List, length, slice_index_or, slice_set}
 use Rattle.std.proofs.Common.{arith, sym, ◌∙◌, ap, ap₂, refl, inl, inr, get_or-set_other, get_or-set_same, length-set}
+use Rattle.commutative_ring.proofs.SmallCases.{at_least_or_below, same_or_not, before_or_here}
 use Rattle.exact_forms.specs.Triangles.{triangle}
-use Rattle.exact_forms.proofs.Slacks.{same_or_not}
 use Rattle.exact_forms.proofs.Triangles.{place_decides}
 use Rattle.unimodular_cone.specs.Replacement.{IsPartRowSet}
 use Rattle.unimodular_cone.proofs.Fields.{place_below}
@@ -22,18 +22,16 @@ pub row_set_more : (r k at : ℕ) (old row new : List ℤ) (v : ℤ) → IsPartR
     → at ≡ triangle (max r k) + min r k → v ≡ slice_index_or row k (pos 0) → IsPartRowSet (k + 1) r old row (slice_set new at v)
 row_set_more r k at old row new v h size lr lk place is = record {
   room = length-set new at v ∙ h.room;
-  in_row = λ b le l. row_at b le (last b l);
-  in_column = λ a le l. column_at a le (last a l);
+  in_row = λ b le l. row_at b le (before_or_here b k l);
+  in_column = λ a le l. column_at a le (before_or_here a k l);
   elsewhere = λ a b le na nb. kept a b le (apart a b le na nb) (h.elsewhere a b le na nb);
 }
   where
     below : triangle (max r k) + min r k < 36
     below = place_below (max r k) (min r k) (omega arith) (omega arith)
 
-    last : (b : ℕ) → b < k + 1 → (b < k) ⊎ (b ≡ k)
-    last b l = grind arith
-
-    kept : (a b : ℕ) {z : ℤ} → b ≤ a → ((a ≢ max r k) ⊎ (b ≢ min r k)) → slice_index_or new (triangle a + b) (pos 0) ≡ z → slice_index_or (slice_set new at v) (triangle a + b) (pos 0) ≡ z
+    kept : (a b : ℕ) {z : ℤ} → b ≤ a → ((a ≢ max r k) ⊎ (b ≢ min r k)) → slice_index_or new (triangle a + b) (pos 0) ≡ z
+        → slice_index_or (slice_set new at v) (triangle a + b) (pos 0) ≡ z
     kept a b le ne e = get_or-set_other new at (triangle a + b) v (pos 0) (λ f. other_place r k a b le ne (f ∙ place)) ∙ e
 
     here : (a b : ℕ) → a ≡ max r k → b ≡ min r k → slice_index_or (slice_set new at v) (triangle a + b) (pos 0) ≡ slice_index_or row k (pos 0)
@@ -61,11 +59,8 @@ row_set_more r k at old row new v h size lr lk place is = record {
     column_at a le (inr e) = here a r (omega arith) (omega arith) ∙ ap (λ (w : ℕ). slice_index_or row w (pos 0)) (sym e)
 
     apart : (a b : ℕ) → b ≤ a → a ≢ r → b ≢ r → (a ≢ max r k) ⊎ (b ≢ min r k)
-    apart a b le na nb = by (side r k)
+    apart a b le na nb = by (at_least_or_below r k)
       where
-        side : (r k : ℕ) → (k ≤ r) ⊎ (r < k)
-        side r k = grind arith
-
         by : ((k ≤ r) ⊎ (r < k)) → (a ≢ max r k) ⊎ (b ≢ min r k)
         by (inl le) = inl (λ e. na (omega arith))
         by (inr lt) = inr (λ e. nb (omega arith))
@@ -96,10 +91,12 @@ row_set_corner n r at here old row new v h size lr room place is = record {
         ap (λ (w : ℕ). slice_index_or (slice_set new at v) w (pos 0)) e
         ∙ get_or-set_same new at v (pos 0) (omega (arith, h.room, place, below)) ∙ sym (get_or-set_same row r v (pos 0) room)
 
-    in_row : (b : ℕ) → b < n → b ≤ r → ((b ≡ r) ⊎ (b ≢ r)) → slice_index_or (slice_set new at v) (triangle r + b) (pos 0) ≡ slice_index_or (slice_set row r v) b (pos 0)
+    in_row : (b : ℕ) → b < n → b ≤ r → ((b ≡ r) ⊎ (b ≢ r))
+        → slice_index_or (slice_set new at v) (triangle r + b) (pos 0) ≡ slice_index_or (slice_set row r v) b (pos 0)
     in_row b l le (inl e) = corner r b refl e ∙ ap (λ (w : ℕ). slice_index_or (slice_set row r v) w (pos 0)) (sym e)
     in_row b l le (inr ne) = kept r b le (inr ne) ∙ h.in_row b le l ∙ sym (get_or-set_other row r b v (pos 0) ne)
 
-    in_column : (a : ℕ) → a < n → r ≤ a → ((a ≡ r) ⊎ (a ≢ r)) → slice_index_or (slice_set new at v) (triangle a + r) (pos 0) ≡ slice_index_or (slice_set row r v) a (pos 0)
+    in_column : (a : ℕ) → a < n → r ≤ a → ((a ≡ r) ⊎ (a ≢ r))
+        → slice_index_or (slice_set new at v) (triangle a + r) (pos 0) ≡ slice_index_or (slice_set row r v) a (pos 0)
     in_column a l le (inl e) = corner a r e refl ∙ ap (λ (w : ℕ). slice_index_or (slice_set row r v) w (pos 0)) (sym e)
     in_column a l le (inr ne) = kept a r le (inl ne) ∙ h.in_column a le l ∙ sym (get_or-set_other row r a v (pos 0) ne)

@@ -1,16 +1,19 @@
 -- A cone that shows the cone at a path: its pair, its slacks, its values and its children are those of the path.
-use Rattle.std.specs.Prelude.{◌≡◌, ◌≢◌, ◌⊎◌, ℕ, ◌<◌, ℤ, pos, ◌+ℤ◌, ◌-ℤ◌, ◌≤ℤ◌, cond, eqb, Bool, true, false, Some, None, Result, Ok, Err, IfOk, IfErr, [], ◌∷◌, ◌++◌}
+use Rattle.std.specs.Prelude.{◌≡◌, ◌≢◌, ◌⊎◌, ℕ, ◌<◌, ℤ, pos, ◌+ℤ◌, ◌-ℤ◌, ◌≤ℤ◌, cond, eqb, Bool, true, false, Some, None, Result, Ok, Err, IfOk, IfErr, [], ◌∷◌}
+use Rattle.std.specs.Prelude.{◌++◌}
 use Rattle.std.proofs.Common.{arith, sym, ◌∙◌, ap, ap₂, inl, inr, subst}
+use Rattle.commutative_ring.proofs.SmallCases.{same_or_not}
 use Rattle.exact_forms.specs.Slacks.{slack, shortfall, IsClosed}
 use Rattle.exact_forms.proofs.Sums.{sum_to_same}
-use Rattle.exact_forms.proofs.Slacks.{same_or_not}
 use Rattle.unimodular_cone.specs.declared.refusal.WideAt.{WideAt}
 use Rattle.unimodular_cone.specs.declared.refusal.ConeFail.{ConeFail}
 use Rattle.unimodular_cone.specs.declared.refusal.ConeFail.TheVariants.{Wide, OutOfMemory}
 use Rattle.unimodular_cone.specs.Paths.{Path}
-use Rattle.unimodular_cone.specs.Cones.{Matrix, Generators, gram, value, unit_vectors, cone_from, cone_at, pair_of, IsPair, child, child_on, child_gram, child_gram_on, FitsLimits, Fits, IsFirstOver}
+use Rattle.unimodular_cone.specs.Cones.{Matrix, Generators, gram, value, unit_vectors, cone_from, cone_at, pair_of, IsPair, child, child_on, child_gram}
+use Rattle.unimodular_cone.specs.Cones.{child_gram_on, FitsLimits, Fits, IsFirstOver}
 use Rattle.unimodular_cone.specs.Tree.{CanSplit, IsClosedAt, IsFirstOverBelow}
-use Rattle.unimodular_cone.specs.Shown.{ShownCone, shown_gram, shown_generators, IsWithinLimits, IsConeOf, IsConeAt, IsChild, IsFirstWide, FitsOnSide, FitsOnBothSides, IsFirstWideBelow, IsWideWhere, ReachesChild, IsExactChild, ShowsChild, NamesPair}
+use Rattle.unimodular_cone.specs.Shown.{ShownCone, shown_gram, shown_generators, IsWithinLimits, IsConeOf, IsConeAt, IsChild, IsFirstWide, FitsOnSide}
+use Rattle.unimodular_cone.specs.Shown.{FitsOnBothSides, IsFirstWideBelow, IsWideWhere, ReachesChild, IsExactChild, ShowsChild, NamesPair}
 use Rattle.unimodular_cone.proofs.Pairs.{pair_is, pair_same, none_is, some_pair}
 use Rattle.unimodular_cone.proofs.Additions.{gram-child, child_row, child_row_other}
 use Rattle.unimodular_cone.proofs.Tree.{cone_at-side}
@@ -26,14 +29,16 @@ slack_same n g h i li same =
 pub closed_same : (n : ℕ) (g h : Matrix) (b : ℤ) → ((k l : ℕ) → k < n → l < n → g k l ≡ h k l) → IsClosed n g b → IsClosed n h b
 closed_same n g h b same closed i li = subst (λ (z : ℤ). b ≤ℤ z) (slack_same n g h i li same) (closed i li)
 
-pub child_same : (n : ℕ) (v w : Generators) (i j k p : ℕ) → i < n → j < n → k < n → p < n → ((k p : ℕ) → k < n → p < n → v k p ≡ w k p) → child v i j k p ≡ child w i j k p
+pub child_same : (n : ℕ) (v w : Generators) (i j k p : ℕ) → i < n → j < n → k < n → p < n → ((k p : ℕ) → k < n → p < n → v k p ≡ w k p)
+    → child v i j k p ≡ child w i j k p
 child_same n v w i j k p li lj lk lp same = by (same_or_not k i)
   where
     by : ((k ≡ i) ⊎ (k ≢ i)) → child v i j k p ≡ child w i j k p
     by (inl e) = child_row v i j k p e ∙ ap₂ (λ (a : ℤ) (b : ℤ). a +ℤ b) (same i p li lp) (same j p lj lp) ∙ sym (child_row w i j k p e)
     by (inr ne) = child_row_other v i j k p ne ∙ same k p lk lp ∙ sym (child_row_other w i j k p ne)
 
-pub child_gram_same : (n : ℕ) (g h : Matrix) (i j k l : ℕ) → i < n → j < n → k < n → l < n → ((k l : ℕ) → k < n → l < n → g k l ≡ h k l) → child_gram g i j k l ≡ child_gram h i j k l
+pub child_gram_same : (n : ℕ) (g h : Matrix) (i j k l : ℕ) → i < n → j < n → k < n → l < n → ((k l : ℕ) → k < n → l < n → g k l ≡ h k l)
+    → child_gram g i j k l ≡ child_gram h i j k l
 child_gram_same n g h i j k l li lj lk ll same =
     child_same n (λ b a. child g i j a b) (λ b a. child h i j a b) i j l k li lj ll lk (λ b a lb la. child_same n g h i j a b li lj la lb same)
 
@@ -47,7 +52,8 @@ module _ (n : ℕ) (q : Matrix) (v : Generators) (c : ShownCone) (h : IsConeOf n
   gram_on false k l lk ll = child_gram_same n (shown_gram c) (gram n q v) i j k l li lj lk ll h.gram_is ∙ sym (gram-child n q v i j k l)
   gram_on true k l lk ll = child_gram_same n (shown_gram c) (gram n q v) j i k l lj li lk ll h.gram_is ∙ sym (gram-child n q v j i k l)
 
-  pub same_on : (side : Bool) → SameBelow n (child_on (shown_generators c) i j side) (child_on v i j side) (child_gram_on (shown_gram c) i j side) (gram n q (child_on v i j side))
+  pub same_on : (side : Bool)
+      → SameBelow n (child_on (shown_generators c) i j side) (child_on v i j side) (child_gram_on (shown_gram c) i j side) (gram n q (child_on v i j side))
   same_on side = record { generators = generators_on side; gram_is = gram_on side }
 
   pub child_of : (side : Bool) (d : ShownCone) → IsChild c i j side d → IsConeOf n q (child_on v i j side) d
@@ -58,10 +64,14 @@ module _ (n : ℕ) (q : Matrix) (v : Generators) (c : ShownCone) (h : IsConeOf n
   }
 
   pub wide_of : (side : Bool) (at : WideAt) → IsFirstWide c i j side at → IsFirstOver n q (child_on v i j side) at.entry
-  wide_of side at is = first_over_same n (child_on (shown_generators c) i j side) (child_on v i j side) (child_gram_on (shown_gram c) i j side) (gram n q (child_on v i j side)) at.entry (same_on side) (rw (← h.size) is.entry)
+  wide_of side at is =
+      first_over_same n (child_on (shown_generators c) i j side) (child_on v i j side) (child_gram_on (shown_gram c) i j side) (gram n q (child_on v i j side))
+      at.entry (same_on side) (rw (← h.size) is.entry)
 
   pub fits_of : (side : Bool) → FitsOnSide c i j side → Fits n q (child_on v i j side)
-  fits_of side fits = fits_same n (child_on (shown_generators c) i j side) (child_on v i j side) (child_gram_on (shown_gram c) i j side) (gram n q (child_on v i j side)) (same_on side) (rw (← h.size) fits)
+  fits_of side fits =
+      fits_same n (child_on (shown_generators c) i j side) (child_on v i j side) (child_gram_on (shown_gram c) i j side) (gram n q (child_on v i j side))
+      (same_on side) (rw (← h.size) fits)
 
 -- ---- at a path
 module _ (n : ℕ) (q : Matrix) (path : Path) (c : ShownCone) (h : IsConeAt n q path c) where
@@ -78,10 +88,14 @@ module _ (n : ℕ) (q : Matrix) (path : Path) (c : ShownCone) (h : IsConeAt n q 
   closed_at b closed = closed_same n (shown_gram c) (gram n q (cone_at n q path)) b h.cone.gram_is (rw (← h.cone.size) closed)
 
   pub closed_there : (b : ℤ) → IsClosedAt n q path b → IsClosed c.size (shown_gram c) b
-  closed_there b closed = subst (λ (m : ℕ). IsClosed m (shown_gram c) b) (sym h.cone.size) (closed_same n (gram n q (cone_at n q path)) (shown_gram c) b (λ k l lk ll. sym (h.cone.gram_is k l lk ll)) closed)
+  closed_there b closed =
+      subst (λ (m : ℕ). IsClosed m (shown_gram c) b) (sym h.cone.size)
+      (closed_same n (gram n q (cone_at n q path)) (shown_gram c) b (λ k l lk ll. sym (h.cone.gram_is k l lk ll)) closed)
 
   pub fits_at : IsWithinLimits c → Fits n q (cone_at n q path)
-  fits_at w = fits_same n (shown_generators c) (cone_at n q path) (shown_gram c) (gram n q (cone_at n q path)) (record { generators = h.cone.generators; gram_is = h.cone.gram_is }) (subst (λ (m : ℕ). FitsLimits m (shown_generators c) (shown_gram c)) h.cone.size w.fits)
+  fits_at w = fits_same n (shown_generators c) (cone_at n q path) (shown_gram c) (gram n q (cone_at n q path))
+      (record { generators = h.cone.generators; gram_is = h.cone.gram_is })
+      (subst (λ (m : ℕ). FitsLimits m (shown_generators c) (shown_gram c)) h.cone.size w.fits)
 
   pub value_at : (k : ℕ) → k < n → shown_gram c k k ≡ value n q (cone_at n q path) k
   value_at k lk = h.cone.gram_is k k lk lk
@@ -100,11 +114,15 @@ module _ (n : ℕ) (q : Matrix) (path : Path) (c : ShownCone) (h : IsConeAt n q 
   pub child_at_path : (i j : ℕ) (side : Bool) (d : ShownCone) → IsPair c.size (shown_gram c) i j → IsChild c i j side d → IsConeAt n q (path ++ side ∷ []) d
   child_at_path i j side d p is = record {
     path_is = is.path_is ∙ ap (λ (w : Path). w ++ side ∷ []) h.path_is;
-    cone = subst (λ (v : Generators). IsConeOf n q v d) (sym (next i j side p)) (child_of n q (cone_at n q path) c h.cone i j (row_in i j p) (column_in i j p) side d is);
+    cone = subst (λ (v : Generators). IsConeOf n q v d) (sym (next i j side p))
+        (child_of n q (cone_at n q path) c h.cone i j (row_in i j p) (column_in i j p) side d is);
   }
 
-  pub wide_at_path : (i j : ℕ) (side : Bool) (at : WideAt) → IsPair c.size (shown_gram c) i j → IsFirstWide c i j side at → IsFirstOver n q (cone_at n q (path ++ side ∷ [])) at.entry
-  wide_at_path i j side at p is = subst (λ (v : Generators). IsFirstOver n q v at.entry) (sym (next i j side p)) (wide_of n q (cone_at n q path) c h.cone i j (row_in i j p) (column_in i j p) side at is)
+  pub wide_at_path : (i j : ℕ) (side : Bool) (at : WideAt) → IsPair c.size (shown_gram c) i j → IsFirstWide c i j side at
+      → IsFirstOver n q (cone_at n q (path ++ side ∷ [])) at.entry
+  wide_at_path i j side at p is =
+      subst (λ (v : Generators). IsFirstOver n q v at.entry) (sym (next i j side p))
+      (wide_of n q (cone_at n q path) c h.cone i j (row_in i j p) (column_in i j p) side at is)
 
   pub splits_at : (i j : ℕ) → IsPair c.size (shown_gram c) i j → FitsOnBothSides c i j → CanSplit n q (cone_at n q path)
   splits_at i j p both = record {
@@ -127,7 +145,8 @@ module _ (n : ℕ) (q : Matrix) (path : Path) (c : ShownCone) (h : IsConeAt n q 
       shown_fits : (side : Bool) → Fits n q (child_on (cone_at n q path) i j side) → FitsOnSide c i j side
       shown_fits side fits =
           subst (λ (m : ℕ). FitsLimits m (child_on (shown_generators c) i j side) (child_gram_on (shown_gram c) i j side)) (sym h.cone.size)
-          (fits_same n (child_on (cone_at n q path) i j side) (child_on (shown_generators c) i j side) (gram n q (child_on (cone_at n q path) i j side)) (child_gram_on (shown_gram c) i j side)
+          (fits_same n (child_on (cone_at n q path) i j side) (child_on (shown_generators c) i j side) (gram n q (child_on (cone_at n q path) i j side))
+          (child_gram_on (shown_gram c) i j side)
           (same_back (same_on n q (cone_at n q path) c h.cone i j (row_in i j p) (column_in i j p) side)) fits)
 
   pub wide_below_at : (i j : ℕ) (at : WideAt) → IsPair c.size (shown_gram c) i j → IsFirstWideBelow c i j at → IsFirstOverBelow n q path at.path at.entry
@@ -139,7 +158,12 @@ module _ (n : ℕ) (q : Matrix) (path : Path) (c : ShownCone) (h : IsConeAt n q 
       by : IsFirstWideBelow c i j at → ((at.path ≡ path ++ false ∷ []) × IsFirstOver n q (child (cone_at n q path) i j) at.entry)
           ⊎ (Fits n q (child (cone_at n q path) i j) × (at.path ≡ path ++ true ∷ []) × IsFirstOver n q (child (cone_at n q path) j i) at.entry)
       by (inl f) = inl (moved false f, wide_of n q (cone_at n q path) c h.cone i j (row_in i j p) (column_in i j p) false at f)
-      by (inr (fits, f)) = inr (fits_of n q (cone_at n q path) c h.cone i j (row_in i j p) (column_in i j p) false fits, moved true f, wide_of n q (cone_at n q path) c h.cone i j (row_in i j p) (column_in i j p) true at f)
+      by (inr (fits, f)) =
+          inr (
+            fits_of n q (cone_at n q path) c h.cone i j (row_in i j p) (column_in i j p) false fits,
+            moved true f,
+            wide_of n q (cone_at n q path) c h.cone i j (row_in i j p) (column_in i j p) true at f,
+          )
 
 -- a root that is within its limits
 pub root_fits : (n : ℕ) (q : Matrix) (c : ShownCone) → IsConeAt n q [] c → IsWithinLimits c → Fits n q unit_vectors

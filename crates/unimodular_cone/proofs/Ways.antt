@@ -6,7 +6,8 @@ use Rattle.unimodular_cone.specs.declared.refusal.ConeFail.{ConeFail}
 use Rattle.unimodular_cone.specs.declared.refusal.ConeFail.TheVariants.{Wide, OutOfMemory}
 use Rattle.unimodular_cone.specs.Paths.{Path, IsAbove, digit_of, digit_at}
 use Rattle.unimodular_cone.specs.Cones.{Matrix, gram, cone_at, pair_of, IsPair, Fits, IsFirstOver}
-use Rattle.unimodular_cone.specs.Shown.{ShownCone, IsConeAt, IsNext, IsFirstWideNext, IsFirstWideAt, IsReachable, IsWideWhere, IsWithinLimits, shown_gram, NamesPair}
+use Rattle.unimodular_cone.specs.Shown.{ShownCone, IsConeAt, IsNext, IsFirstWideNext, IsFirstWideAt, IsReachable, IsWideWhere, IsWithinLimits, shown_gram}
+use Rattle.unimodular_cone.specs.Shown.{NamesPair}
 use Rattle.unimodular_cone.proofs.Orders.{take_is_above}
 use Rattle.unimodular_cone.proofs.ShownAt.{child_at_path, wide_at_path, no_pair_at, pair_at, fits_at}
 use Rattle.unimodular_cone.proofs.Tree.{above_child}
@@ -14,6 +15,10 @@ use Rattle.unimodular_cone.proofs.Tree.{above_child}
 pub digit_back : (b : Bool) → nat_eq (digit_of b) 1 ≡ b
 digit_back false = refl
 digit_back true = refl
+
+-- one more step of the way
+pub take_digit : (path : Path) (k : ℕ) → k < length path → take k path ++ nat_eq (digit_of (digit_at path k)) 1 ∷ [] ≡ take (k + 1) path
+take_digit path k l = ap (λ (b : Bool). take k path ++ b ∷ []) (digit_back (digit_at path k)) ∙ sym (take_more path k false l)
 
 module _ (n : ℕ) (q : Matrix) (path : Path) (reach : IsReachable n q path) where
   -- the root is the path itself, or above it
@@ -32,11 +37,10 @@ module _ (n : ℕ) (q : Matrix) (path : Path) (reach : IsReachable n q path) whe
     pub room_below : length path ≤ 200 → length c.path < 200
     room_below short = let s : length (take k path) ≡ k = length-take-le k path (omega arith) in omega (arith, ap length h.path_is)
 
-    more : take k path ++ nat_eq (digit_of (digit_at path k)) 1 ∷ [] ≡ take (k + 1) path
-    more = ap (λ (b : Bool). take k path ++ b ∷ []) (digit_back (digit_at path k)) ∙ sym (take_more path k false l)
-
     pub next_at : (d : ShownCone) → IsNext c (nat_eq (digit_of (digit_at path k)) 1) d → IsConeAt n q (take (k + 1) path) d
-    next_at d is = subst (λ (p : Path). IsConeAt n q p d) more (child_at_path n q (take k path) c h is.i is.j (nat_eq (digit_of (digit_at path k)) 1) d is.pair is.child)
+    next_at d is =
+        subst (λ (p : Path). IsConeAt n q p d) (take_digit path k l)
+        (child_at_path n q (take k path) c h is.i is.j (nat_eq (digit_of (digit_at path k)) 1) d is.pair is.child)
 
     pub wide_next : (fail : ConeFail) → IsWideWhere (IsFirstWideNext c (nat_eq (digit_of (digit_at path k)) 1)) fail → IsWideWhere (IsFirstWideAt n q path) fail
     wide_next OutOfMemory w = w
@@ -46,10 +50,11 @@ module _ (n : ℕ) (q : Matrix) (path : Path) (reach : IsReachable n q path) whe
         last_or_not a b l = grind arith
 
         over : IsFirstOver n q (cone_at n q (take (k + 1) path)) at.entry
-        over = subst (λ (p : Path). IsFirstOver n q (cone_at n q p) at.entry) more (wide_at_path n q (take k path) c h w.i w.j (nat_eq (digit_of (digit_at path k)) 1) at w.pair w.child)
+        over = subst (λ (p : Path). IsFirstOver n q (cone_at n q p) at.entry) (take_digit path k l)
+            (wide_at_path n q (take k path) c h w.i w.j (nat_eq (digit_of (digit_at path k)) 1) at w.pair w.child)
 
         there : at.path ≡ take (k + 1) path
-        there = w.child.path_is ∙ ap (λ (p : Path). p ++ nat_eq (digit_of (digit_at path k)) 1 ∷ []) h.path_is ∙ more
+        there = w.child.path_is ∙ ap (λ (p : Path). p ++ nat_eq (digit_of (digit_at path k)) 1 ∷ []) h.path_is ∙ take_digit path k l
 
         by : ((k + 1 ≡ length path) ⊎ (k + 1 < length path)) → IsFirstWideAt n q path at
         by (inl e) = let whole : take (k + 1) path ≡ path = ap (λ (m : ℕ). take m path) e ∙ take_all (length path) path (omega arith) in record {
@@ -59,6 +64,9 @@ module _ (n : ℕ) (q : Matrix) (path : Path) (reach : IsReachable n q path) whe
         by (inr lt) = absurd (reach.fits (take (k + 1) path) (take_is_above path (k + 1) lt) at.entry over.over)
 
 -- ---- a way that is gone step by step
+pub not_none : (i j : ℕ) → ◌≢◌ {A = Option (ℕ × ℕ)} (Some (i, j)) None
+not_none i j e = (cc)
+
 pub reachable_more : (n : ℕ) (q : Matrix) (path : Path) (c : ShownCone) (i j : ℕ) (side : Bool) → IsReachable n q path → IsConeAt n q path c → IsWithinLimits c
     → IsPair c.size (shown_gram c) i j → IsReachable n q (path ++ side ∷ [])
 reachable_more n q path c i j side reach h w p = record {
@@ -69,9 +77,6 @@ reachable_more n q path c i j side reach h w p = record {
     has : (a : Path) → ((a ≡ path) ⊎ IsAbove a path) → pair_of n (gram n q (cone_at n q a)) ≢ None
     has a (inl e) = λ none. let some : pair_of n (gram n q (cone_at n q path)) ≡ Some (i, j) = pair_at n q path c h i j p in
         not_none i j (sym some ∙ ap (λ (r : Path). pair_of n (gram n q (cone_at n q r))) (sym e) ∙ none)
-      where
-        not_none : (i j : ℕ) → ◌≢◌ {A = Option (ℕ × ℕ)} (Some (i, j)) None
-        not_none i j e = (cc)
     has a (inr above) = reach.pair a above
 
     fit : (a : Path) → ((a ≡ path) ⊎ IsAbove a path) → Fits n q (cone_at n q a)

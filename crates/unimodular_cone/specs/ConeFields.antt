@@ -8,7 +8,12 @@ use Rattle.unimodular_cone.specs.declared.cone.Cone.TheInside.{Inside}
 use Rattle.unimodular_cone.specs.Shown.{ShownCone, IsWithinLimits}
 
 abbrev pub shown_of : Inside → ShownCone
-shown_of c = record { size = c.n; path = c.path; lower = take (triangle c.n) c.gram; generators = map (take c.n) (take c.n c.generators) }
+shown_of c = record {
+  size = c.n;
+  path = c.path;
+  lower = take (triangle c.n) c.gram;
+  generators = map (take c.n) (take c.n c.generators);
+}
 
 pub record IsCone (c : Inside) : Type 0 where
   pub within : IsWithinLimits (shown_of c)

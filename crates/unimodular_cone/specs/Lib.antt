@@ -12,3 +12,5 @@ pub mod Mediant
 pub mod Shown
 pub mod Theorems
 pub mod Copies
+pub mod Narrow
+pub mod NarrowFields

@@ -26,7 +26,8 @@ abbrev pub FitsWith : ShownCone → ℕ → ℕ → Type 0
 FitsWith c r s = FitsLimits c.size (child (shown_generators c) r s) (child_gram (shown_gram c) r s)
 
 abbrev pub IsFirstOverWith : ShownCone → ℕ → ℕ → WideEntry → Type 0
-IsFirstOverWith c r s entry = IsFirstOverLimit c.size (child (shown_generators c) r s) (child_gram (shown_gram c) r s) entry
+IsFirstOverWith c r s entry =
+    IsFirstOverLimit c.size (child (shown_generators c) r s) (child_gram (shown_gram c) r s) entry
 
 pub record HoldsFirstAt (n : ℕ) (P : ℕ → Type 0) (k : ℕ) : Type 0 where
   pub range : k < n

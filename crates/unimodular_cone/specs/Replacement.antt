@@ -27,7 +27,8 @@ pub record IsPartRowSet (k r : ℕ) (old row new : List ℤ) : Type 0 where
   pub room : length new ≡ length old
   pub in_row : (b : ℕ) → b ≤ r → b < k → slice_index_or new (triangle r + b) (pos 0) ≡ slice_index_or row b (pos 0)
   pub in_column : (a : ℕ) → r ≤ a → a < k → slice_index_or new (triangle a + r) (pos 0) ≡ slice_index_or row a (pos 0)
-  pub elsewhere : (a b : ℕ) → b ≤ a → a ≢ r → b ≢ r → slice_index_or new (triangle a + b) (pos 0) ≡ slice_index_or old (triangle a + b) (pos 0)
+  pub elsewhere : (a b : ℕ) → b ≤ a → a ≢ r → b ≢ r
+      → slice_index_or new (triangle a + b) (pos 0) ≡ slice_index_or old (triangle a + b) (pos 0)
 
 abbrev pub IsRowSet : ℕ → ℕ → List ℤ → List ℤ → List ℤ → Type 0
 IsRowSet n r old row new = IsPartRowSet n r old row new

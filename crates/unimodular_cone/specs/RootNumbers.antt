@@ -15,7 +15,8 @@ pub record IsLowerOf (q : Symmetric) (n : ℕ) (lower : List ℤ) : Type 0 where
 pub record IsPartRowCopied (q : Symmetric) (i k : ℕ) (old new : List ℤ) : Type 0 where
   pub room : length new ≡ length old
   pub row : (j : ℕ) → j ≤ i → j < k → slice_index_or new (triangle i + j) (pos 0) ≡ entry q i j
-  pub before : (a b : ℕ) → b ≤ a → a < i → slice_index_or new (triangle a + b) (pos 0) ≡ slice_index_or old (triangle a + b) (pos 0)
+  pub before : (a b : ℕ) → b ≤ a → a < i
+      → slice_index_or new (triangle a + b) (pos 0) ≡ slice_index_or old (triangle a + b) (pos 0)
 
 abbrev pub IsRowCopied : Symmetric → ℕ → List ℤ → List ℤ → Type 0
 IsRowCopied q i old new = IsPartRowCopied q i (i + 1) old new

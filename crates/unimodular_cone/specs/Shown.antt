@@ -68,15 +68,18 @@ pub record IsConeAt (n : ℕ) (q : Matrix) (path : Path) (c : ShownCone) : Type 
 pub record IsChild (c : ShownCone) (i j : ℕ) (side : Bool) (d : ShownCone) : Type 0 where
   pub size : d.size ≡ c.size
   pub path_is : d.path ≡ c.path ++ side ∷ []
-  pub generators : (k p : ℕ) → k < c.size → p < c.size → shown_generators d k p ≡ child_on (shown_generators c) i j side k p
+  pub generators : (k p : ℕ) → k < c.size → p < c.size
+      → shown_generators d k p ≡ child_on (shown_generators c) i j side k p
   pub gram_is : (k l : ℕ) → k < c.size → l < c.size → shown_gram d k l ≡ child_gram_on (shown_gram c) i j side k l
 
 pub record IsFirstWide (c : ShownCone) (i j : ℕ) (side : Bool) (at : WideAt) : Type 0 where
   pub path_is : at.path ≡ c.path ++ side ∷ []
-  pub entry : IsFirstOverLimit c.size (child_on (shown_generators c) i j side) (child_gram_on (shown_gram c) i j side) at.entry
+  pub entry : IsFirstOverLimit c.size (child_on (shown_generators c) i j side) (child_gram_on (shown_gram c) i j side)
+      at.entry
 
 abbrev pub FitsOnSide : ShownCone → ℕ → ℕ → Bool → Type 0
-FitsOnSide c i j side = FitsLimits c.size (child_on (shown_generators c) i j side) (child_gram_on (shown_gram c) i j side)
+FitsOnSide c i j side =
+    FitsLimits c.size (child_on (shown_generators c) i j side) (child_gram_on (shown_gram c) i j side)
 
 pub record FitsOnBothSides (c : ShownCone) (i j : ℕ) : Type 0 where
   pub first : FitsOnSide c i j false
@@ -101,19 +104,22 @@ pub record IsReachable (n : ℕ) (q : Matrix) (path : Path) : Type 0 where
 
 -- where c shows the generators v and their Gram matrix for Q, d shows those of the child
 abbrev pub IsExactChild : ShownCone → ℕ → ℕ → Bool → ShownCone → Type 0
-IsExactChild c i j side d = (q : Matrix) (v : Generators) → IsConeOf c.size q v c → IsConeOf c.size q (child_on v i j side) d
+IsExactChild c i j side d = (q : Matrix) (v : Generators) → IsConeOf c.size q v c
+    → IsConeOf c.size q (child_on v i j side) d
 
 -- where c shows the generators v and their Gram matrix for Q, the answer shows those of the child, or is the child's first entry
 -- over its limit
 abbrev pub ShowsChild : ShownCone → ℕ → ℕ → Bool → Result ShownCone ConeFail → Type 0
 ShowsChild c i j side result = (q : Matrix) (v : Generators) → IsConeOf c.size q v c
-    → MatchResult result (IsConeOf c.size q (child_on v i j side)) (IsWideWhere (λ at. IsFirstOver c.size q (child_on v i j side) at.entry))
+    → MatchResult result (IsConeOf c.size q (child_on v i j side))
+    (IsWideWhere (λ at. IsFirstOver c.size q (child_on v i j side) at.entry))
 
 -- where c is the cone at its path and (i, j) its pair, the child is the cone at the child's path, or that one's first
 -- entry over its limit is the answer
 abbrev pub ReachesChild : ShownCone → ℕ → ℕ → Bool → Result ShownCone ConeFail → Type 0
 ReachesChild c i j side result = (q : Matrix) → IsConeAt c.size q c.path c → IsPair c.size (shown_gram c) i j
-    → MatchResult result (IsConeAt c.size q (c.path ++ side ∷ [])) (IsWideWhere (IsFirstWideAt c.size q (c.path ++ side ∷ [])))
+    → MatchResult result (IsConeAt c.size q (c.path ++ side ∷ []))
+    (IsWideWhere (IsFirstWideAt c.size q (c.path ++ side ∷ [])))
 
 -- ---- the pair
 abbrev pub NamesPair : ShownCone → Option (ℕ × ℕ) → Type 0

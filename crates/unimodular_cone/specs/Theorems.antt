@@ -28,7 +28,8 @@ pub record CoversOnBothSides (n : ℕ) (v : Generators) (a : ℕ → ℤ) (i j :
   pub second : a j ≤ℤ a i → LiesIn n (child v j i) (combination n a v)
 
 abbrev pub ChildrenCover : Type 0
-ChildrenCover = (n : ℕ) (v : Generators) (a : ℕ → ℤ) (i j : ℕ) → i < n → j < n → i ≢ j → AreNonnegative n a → CoversOnBothSides n v a i j
+ChildrenCover = (n : ℕ) (v : Generators) (a : ℕ → ℤ) (i j : ℕ) → i < n → j < n → i ≢ j → AreNonnegative n a
+    → CoversOnBothSides n v a i j
 
 -- x is not zero below n
 abbrev pub IsNonzeroBelow : ℕ → (ℕ → ℤ) → Type 0
@@ -44,30 +45,38 @@ pub record HasBound (n : ℕ) (q : Matrix) (v : Generators) (b : ℤ) (x : ℕ �
 
 pub record ClosedBounds : Type 0 where
   pub positive : (n : ℕ) (q : Matrix) (v : Generators) (b : ℤ) (x : ℕ → ℤ)
-      → IsSymmetric n q → pos 1 ≤ℤ b → IsClosed n (gram n q v) b → LiesIn n v x → IsNonzeroBelow n x → HasBound n q v b x
+      → IsSymmetric n q → pos 1 ≤ℤ b → IsClosed n (gram n q v) b → LiesIn n v x → IsNonzeroBelow n x
+      → HasBound n q v b x
   pub zero : (n : ℕ) (q : Matrix) (v : Generators) (x : ℕ → ℤ)
       → IsSymmetric n q → IsClosed n (gram n q v) (pos 0) → LiesIn n v x → pos 0 ≤ℤ form n q x
 
 abbrev pub AtMostOneFinalBound : Type 0
-AtMostOneFinalBound = (m : Mode) (n : ℕ) (q : Matrix) (d : ℕ) (b c : ℤ) → IsFinalBound m n q d b → IsFinalBound m n q d c → b ≡ c
+AtMostOneFinalBound = (m : Mode) (n : ℕ) (q : Matrix) (d : ℕ) (b c : ℤ) → IsFinalBound m n q d b
+    → IsFinalBound m n q d c → b ≡ c
 
 abbrev pub AtMostOneFirstLow : Type 0
-AtMostOneFirstLow = (m : Mode) (n : ℕ) (q : Matrix) (d : ℕ) (p r : Path) → IsFirstLow m n q d p → IsFirstLow m n q d r → p ≡ r
+AtMostOneFirstLow = (m : Mode) (n : ℕ) (q : Matrix) (d : ℕ) (p r : Path) → IsFirstLow m n q d p → IsFirstLow m n q d r
+    → p ≡ r
 
 abbrev pub AtMostOneFirstOpen : Type 0
-AtMostOneFirstOpen = (n : ℕ) (q : Matrix) (d : ℕ) (b : ℤ) (p r : Path) → IsFirstOpen n q d b p → IsFirstOpen n q d b r → p ≡ r
+AtMostOneFirstOpen = (n : ℕ) (q : Matrix) (d : ℕ) (b : ℤ) (p r : Path) → IsFirstOpen n q d b p → IsFirstOpen n q d b r
+    → p ≡ r
 
 abbrev pub AtMostOneSearchAnswer : Type 0
-AtMostOneSearchAnswer = (m : Mode) (n : ℕ) (q : Matrix) (d : ℕ) (a b : SearchAnswer) → IsSearchAnswer m n q d a → IsSearchAnswer m n q d b → a ≡ b
+AtMostOneSearchAnswer = (m : Mode) (n : ℕ) (q : Matrix) (d : ℕ) (a b : SearchAnswer) → IsSearchAnswer m n q d a
+    → IsSearchAnswer m n q d b → a ≡ b
 
 abbrev pub FoundIsMinimum : Type 0
-FoundIsMinimum = (n : ℕ) (q : Matrix) (d : ℕ) (b : ℤ) (vectors : List (List ℕ)) → IsSymmetric n q → IsSearchAnswer Least n q d (Found b vectors) → IsMinimum n q b vectors
+FoundIsMinimum = (n : ℕ) (q : Matrix) (d : ℕ) (b : ℤ) (vectors : List (List ℕ)) → IsSymmetric n q
+    → IsSearchAnswer Least n q d (Found b vectors) → IsMinimum n q b vectors
 
 abbrev pub CopositiveHolds : Type 0
-CopositiveHolds = (n : ℕ) (q : Matrix) (d : ℕ) → IsSymmetric n q → IsSearchAnswer Sign n q d Copositive → IsCopositive n q
+CopositiveHolds = (n : ℕ) (q : Matrix) (d : ℕ) → IsSymmetric n q → IsSearchAnswer Sign n q d Copositive
+    → IsCopositive n q
 
 abbrev pub LowHasItsValue : Type 0
-LowHasItsValue = (m : Mode) (n : ℕ) (q : Matrix) (d : ℕ) (x : List ℕ) (z : ℤ) (path : Path) → IsSearchAnswer m n q d (Low x z path) → IsLowVector m n q x z
+LowHasItsValue = (m : Mode) (n : ℕ) (q : Matrix) (d : ℕ) (x : List ℕ) (z : ℤ) (path : Path)
+    → IsSearchAnswer m n q d (Low x z path) → IsLowVector m n q x z
 
 pub record PairIsFirstLeast : Type 0 where
   pub some : (n : ℕ) (g : Matrix) (i j : ℕ) → pair_of n g ≡ Some (i, j) → IsPair n g i j

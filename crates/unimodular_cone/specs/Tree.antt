@@ -64,7 +64,8 @@ pub record IsFirstOverBelow (n : ℕ) (q : Matrix) (path : Path) (at_path : Path
   pub j : ℕ
   pub pair : pair_of n (gram n q (cone_at n q path)) ≡ Some (i, j)
   pub in_child : ((at_path ≡ path ++ Bool.false ∷ []) × IsFirstOver n q (child (cone_at n q path) i j) entry)
-      ⊎ (Fits n q (child (cone_at n q path) i j) × (at_path ≡ path ++ Bool.true ∷ []) × IsFirstOver n q (child (cone_at n q path) j i) entry)
+      ⊎ (Fits n q (child (cone_at n q path) i j) × (at_path ≡ path ++ Bool.true ∷ [])
+      × IsFirstOver n q (child (cone_at n q path) j i) entry)
 
 abbrev pub HasWideChild : ℕ → Matrix → Path → Type 0
 HasWideChild n q path = (at_path : Path) × (entry : WideEntry) × IsFirstOverBelow n q path at_path entry

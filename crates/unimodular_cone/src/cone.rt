@@ -376,7 +376,7 @@ fn copy_entries(into: &mut [i128; 36], from: &[i128; 36], count: usize)
 
 /// Copies the first n rows of generators.
 #[inline(always)]
-fn copy_rows(into: &mut [[u64; 8]; 8], from: &[[u64; 8]; 8], n: u8)
+pub(crate) fn copy_rows(into: &mut [[u64; 8]; 8], from: &[[u64; 8]; 8], n: u8)
     requires few { n ≤ 8 }
     ensures { AreRowsCopied n from.now into.new }
 {

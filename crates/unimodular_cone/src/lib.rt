@@ -5,9 +5,17 @@
 mod bound_test;
 mod cone;
 mod cone_read;
+mod cone_tests;
 mod law;
 mod mediant;
 mod mode;
+mod narrow;
+mod narrow_bound;
+mod narrow_numbers;
+mod narrow_pair;
+mod narrow_sums;
+#[cfg(test)]
+mod narrow_tests;
 mod pair_rule;
 mod path;
 mod place;
@@ -19,6 +27,7 @@ mod tests;
 pub use bound_test::{closed, least_value};
 pub use cone::{Cone, at_path, child, root};
 pub use cone_read::ConeRead;
+pub use cone_tests::{ByReading, ConeTests};
 pub use law::{
     at_most_one_answer, at_most_one_final_bound, at_most_one_first_low, at_most_one_first_open,
     children_cover, closed_bounds, copositive_holds, found_is_minimum, low_has_its_value,
@@ -26,6 +35,7 @@ pub use law::{
 };
 pub use mediant::children_fit;
 pub use mode::Mode;
+pub use narrow::{NarrowCone, narrow_root};
 pub use pair_rule::pair;
 pub use path::Path;
 pub use refusal::{ConeFail, WideAt, WideEntry};

@@ -76,7 +76,7 @@ pub fn mediant_row<C: ConeRead>(c: &C, r: u8, s: u8) -> [i128; 8]
 
 /// The first of n coordinates that is over its limit.
 #[inline(always)]
-fn first_wide_coordinate(coordinates: &[u64; 8], n: u8) -> Option<u8>
+pub fn first_wide_coordinate(coordinates: &[u64; 8], n: u8) -> Option<u8>
     requires { n ≤ 8 }
     ensures { IsFirstBelow n (λ p. 2 ^ 62 < slice_index_or coordinates.now p 0) result }
 {
@@ -148,7 +148,8 @@ pub fn children_fit<C: ConeRead>(c: &C, i: u8, j: u8) -> Option<WideAt>
     requires order { i < j }
     requires last { j ≤ (C.cone c.now).size }
     requires room { length (C.cone c.now).path < 200 }
-    ensures { MatchOption result (FitsOnBothSides (C.cone c.now) (i - 1) (j - 1)) (IsFirstWideBelow (C.cone c.now) (i - 1) (j - 1)) }
+    ensures { MatchOption result (FitsOnBothSides (C.cone c.now) (i - 1) (j - 1))
+        (IsFirstWideBelow (C.cone c.now) (i - 1) (j - 1)) }
 {
     let (first, second) = (i - 1, j - 1);
     if both_fit(c, first, second) {

@@ -57,13 +57,9 @@ impl Path {
         requires digit { side < 2 }
         ensures { result ≡ self ++ nat_eq side 1 ∷ [] }
     {
-        let mut words = self.words;
-        // The digit past the end was 0.
-        words[usize::from(self.len / 64)] += u64::from(side) << (63 - self.len % 64);
-        Path {
-            words,
-            len: self.len + 1,
-        }
+        let mut longer = self;
+        longer.push(side);
+        longer
     }
 
     /// Puts one more digit at the end of this path.

@@ -27,7 +27,8 @@ fn first_wide_in_row(q: &SymInt, row: u8) -> Option<u8>
 
 /// The first entry of a matrix that is over the limit of Gram entries.
 pub fn first_wide_of(q: &SymInt) -> Option<WideEntry>
-    ensures { MatchOption result (FitsLimits q.now.size unit_vectors (entry q.now)) (IsFirstOverLimit q.now.size unit_vectors (entry q.now)) }
+    ensures { MatchOption result (FitsLimits q.now.size unit_vectors (entry q.now))
+        (IsFirstOverLimit q.now.size unit_vectors (entry q.now)) }
 {
     for row in 0..q.n() {
         if let Some(column) = first_wide_in_row(q, row) {

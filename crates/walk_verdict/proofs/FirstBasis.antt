@@ -3,11 +3,12 @@ use Rattle.std.specs.Prelude.{◌≡◌, ◌⊎◌, ℕ, ◌+◌, ◌-◌, ◌*�
 use Rattle.std.proofs.Common.{arith, sym, ◌∙◌, ap, refl, subst, inl, inr}
 use Rattle.std.proofs.lemmas.Int.{ints}
 use Rattle.commutative_ring.proofs.Ring.{num, ◌⊗◌, v0, v1, v2}
+use Rattle.commutative_ring.proofs.Laws.{one_mul_ℤ}
+use Rattle.commutative_ring.proofs.SmallCases.{true_or_false}
 use Rattle.exact_forms.specs.Rational.{Rational, whole, ratio, ◌*ℚ◌}
 use Rattle.exact_forms.specs.Signs.{IsNonnegative}
 use Rattle.exact_forms.specs.RankOne.{AreCoordinates}
 use Rattle.exact_forms.specs.Vectors.{coordinate}
-use Rattle.exact_forms.proofs.Coordinates.{true_or_false}
 use Rattle.exact_forms.proofs.Rational.{ring_ℚ, mul-ratio, ratio_same}
 use Rattle.exact_forms.proofs.RationalSums.{sum_ℚ_same, mul-sum_ℚ}
 use Rattle.exact_forms.proofs.RankOne.{rank_one_sum_is}
@@ -40,10 +41,7 @@ part_of_whole : (z : ℤ) (d : ℕ) → 0 < d → ratio (pos 1) d *ℚ whole z �
 unfolding whole
 part_of_whole z d h =
     let one : d * 1 ≡ d = omega arith in
-    mul-ratio (pos 1) z d 1 h (omega arith) ∙ ap (λ (k : ℕ). ratio (pos 1 *ℤ z) k) one ∙ ap (λ (y : ℤ). ratio y d) (one_times z)
-  where
-    one_times : (z : ℤ) → pos 1 *ℤ z ≡ z
-    one_times z = omega (arith, ints)
+    mul-ratio (pos 1) z d 1 h (omega arith) ∙ ap (λ (k : ℕ). ratio (pos 1 *ℤ z) k) one ∙ ap (λ (y : ℤ). ratio y d) (one_mul_ℤ z)
 
 whole_part : (d : ℕ) → 0 < d → whole (pos d) *ℚ ratio (pos 1) d ≡ whole (pos 1)
 unfolding whole

@@ -1,8 +1,8 @@
 -- A matrix in the cone of the first visit.
-use Rattle.std.specs.Prelude.{◌≡◌, ◌⊎◌, ℕ, ◌≤◌, ◌<◌, ℤ, pos, nat_abs, ◌≤ℤ◌, ◌<ℤ◌, Bool, true, false, ◌||◌, List, [], map, Option, Some, None, nat_eq}
+use Rattle.std.specs.Prelude.{◌≡◌, ◌⊎◌, ℕ, ◌≤◌, ◌<◌, pos, nat_abs, ◌≤ℤ◌, ◌<ℤ◌, Bool, true, false, ◌||◌, List, [], map, Option, Some, None, nat_eq}
 use Rattle.std.proofs.Common.{arith, ◌∙◌, ap, refl, subst, inl, inr}
-use Rattle.std.proofs.lemmas.Int.{ints}
 use Rattle.std.proofs.lemmas.List.Elements.{All-nil, All-cons}
+use Rattle.commutative_ring.proofs.SmallCases.{below_zero_or_not, positive_abs}
 use Rattle.exact_forms.specs.Rational.{Rational, ratio}
 use Rattle.exact_forms.specs.Forms.{inner}
 use Rattle.exact_forms.specs.Factors.{WeightedVector}
@@ -40,7 +40,7 @@ use Rattle.perfect_walk.proofs.Outside.{held_size}
 use Rattle.perfect_walk.proofs.First.{start_is_held}
 use Rattle.walk_verdict.specs.Verdicts.{task_of, first_visit_alone, IsInFirstCone, IsWalkOf, FirstConeIsFactored}
 use Rattle.walk_verdict.proofs.FirstBasis.{settled}
-use Rattle.walk_verdict.proofs.Weights.{IsPaired, some_magnitude, paired, weights_factor_of}
+use Rattle.walk_verdict.proofs.Weights.{IsPaired, paired, weights_factor_of}
 
 -- ---- a task whose linear program the first basis settles
 module _ (T : Task) (limit : ℕ) (some : 1 ≤ T.s.size) (positive : pos 1 ≤ℤ T.d)
@@ -84,11 +84,8 @@ module _ (T : Task) (limit : ℕ) (some : 1 ≤ T.s.size) (positive : pos 1 ≤�
 
   -- P does not separate what its vectors factor
   met : pos 0 ≤ℤ product_at T (start_state T.s.size)
-  met = by (decided (product_at T (start_state T.s.size)))
+  met = by (below_zero_or_not (product_at T (start_state T.s.size)))
     where
-      decided : (z : ℤ) → (z <ℤ pos 0) ⊎ (pos 0 ≤ℤ z)
-      decided z = grind (arith, ints)
-
       over_d : ℕ → ℕ → Rational
       over_d i j = ratio (entry T.s i j) (nat_abs T.d)
 
@@ -96,7 +93,7 @@ module _ (T : Task) (limit : ℕ) (some : 1 ≤ T.s.size) (positive : pos 1 ≤�
       by (inr h) = h
       by (inl h) =
           let P : IsPaired T.s.size (entry v.matrix) _ over_d =
-          paired T.s.size (entry v.matrix) (entry T.s) (nat_abs T.d) over_d (some_magnitude T.d positive) (λ i j li lj. refl)
+          paired T.s.size (entry v.matrix) (entry T.s) (nat_abs T.d) over_d (positive_abs T.d positive) (λ i j li lj. refl)
           (strictly_copositive T.s.size (entry v.matrix) (minimum_strictly_copositive T.s.size (entry v.matrix) v.mu v.vectors held.minimum))
           (subst (λ (n : ℕ). inner n (entry v.matrix) (entry T.s) <ℤ pos 0) held.size h) in
           absurd (separated_not_factored T.s.size (entry v.matrix) over_d (terms_of v.vectors found) P.separates
@@ -144,7 +141,7 @@ module _ (a : RationalMatrix) (limits : Limits) (some : 1 ≤ a.size) (clear : I
   unfolding cleared_of
   settled_is =
       settled (start_list a.size) (whole_of a) (denominator_of a) placeable (rational_entry a) (nat_abs (denominator_of a))
-      (some_magnitude (denominator_of a) (denominator_positive a)) (λ i j li lj. quotient_entry a i j li lj) inside.nonnegative
+      (positive_abs (denominator_of a) (denominator_positive a)) (λ i j li lj. quotient_entry a i j li lj) inside.nonnegative
 
   is_walk : (terms : List WeightedVector) × IsWalkOf a limits (first_visit_alone a.size terms)
   unfolding cleared_of

@@ -3,17 +3,19 @@ use Rattle.std.specs.Prelude.{◌≡◌, ◌≢◌, ◌⊎◌, ℕ, zero, suc, �
 use Rattle.std.specs.Prelude.{ℤ, pos, negsuc, nat_abs, ◌+ℤ◌, ◌-ℤ◌, ◌≤ℤ◌}
 use Rattle.std.proofs.Common.{arith, sym, ◌∙◌, ap, refl, subst, inl, inr}
 use Rattle.std.proofs.lemmas.Int.{ints}
+use Rattle.commutative_ring.proofs.SmallCases.{same_or_not}
 use Rattle.exact_forms.specs.Forms.{IsSymmetric}
 use Rattle.exact_forms.specs.Copositive.{Matrix}
 use Rattle.exact_forms.specs.Slacks.{shortfall, slack, IsClosed}
 use Rattle.exact_forms.specs.Sums.{sum_to}
-use Rattle.exact_forms.proofs.Slacks.{same_or_not, replaced_here, replaced_other, slack_is_diagonal_less, slack_same}
+use Rattle.exact_forms.proofs.Slacks.{replaced_here, replaced_other, slack_is_diagonal_less, slack_same}
 use Rattle.exact_forms.proofs.Sums.{sum_to-zero, sum_to-suc}
 use Rattle.symmetric_matrix.specs.Symmetric.{entry}
 use Rattle.symmetric_matrix.specs.Recipes.{Place}
 use Rattle.symmetric_matrix.specs.FirstMatrix.{first_minimum, first_entry, first_matrix}
 use Rattle.symmetric_matrix.proofs.Places.{entry_flip}
 use Rattle.symmetric_matrix.proofs.TrianglePlaces.{placed_entry}
+use Rattle.symmetric_matrix.proofs.FirstMatrix.{first_minimum_two, first_minimum_cases, first_entry_cases}
 use Rattle.unimodular_cone.specs.declared.Mode.{Mode}
 use Rattle.unimodular_cone.specs.declared.WideEntry.{WideEntry}
 use Rattle.unimodular_cone.specs.declared.WideEntry.TheVariants.{Coordinate, Gram}
@@ -138,12 +140,9 @@ seen_few n i l = by (one_or_more n)
     one : (n : ℕ) → n ≡ 1 → first_minimum n ≡ pos 1
     one n e = grind arith
 
-    two : (n : ℕ) → n ≢ 1 → first_minimum n ≡ pos 2
-    two n e = grind arith
-
     by : ((n ≡ 1) ⊎ (n ≢ 1)) → pos (seen i n) ≤ℤ first_minimum n
     by (inl e) = subst (λ (z : ℤ). pos (seen i n) ≤ℤ z) (sym (one n e)) (let h = once i n l e in omega (arith, ints))
-    by (inr e) = subst (λ (z : ℤ). pos (seen i n) ≤ℤ z) (sym (two n e)) (let h = twice i n in omega (arith, ints))
+    by (inr e) = subst (λ (z : ℤ). pos (seen i n) ≤ℤ z) (sym (first_minimum_two n e)) (let h = twice i n in omega (arith, ints))
 
 module _ (n : ℕ) where
   first_slack : (i : ℕ) → i < n → pos 0 ≤ℤ slack n (entry (first_matrix n)) i
@@ -171,14 +170,8 @@ module _ (n : ℕ) where
       by (inr ne) = rw (replaced_other (λ (i : ℕ). pos 0) p (pos 1) k ne) (omega (arith, ints))
 
   entry_small : (c : Place) → nat_abs (first_entry n c) ≤ 2
-  entry_small c = by (entries c) (least n)
+  entry_small c = by (first_entry_cases n c) (first_minimum_cases n)
     where
-      least : (n : ℕ) → (first_minimum n ≡ pos 1) ⊎ (first_minimum n ≡ pos 2)
-      least n = grind arith
-
-      entries : (c : Place) → (first_entry n c ≡ first_minimum n) ⊎ ((first_entry n c ≡ negsuc 0) ⊎ (first_entry n c ≡ pos 0))
-      entries c = grind arith
-
       of : (z : ℤ) → first_entry n c ≡ z → nat_abs z ≤ 2 → nat_abs (first_entry n c) ≤ 2
       of z e h = subst (λ (z : ℤ). nat_abs z ≤ 2) (sym e) h
 

@@ -5,6 +5,7 @@ use Rattle.std.specs.List.{All}
 use Rattle.std.proofs.Common.{arith, sym, refl, subst, inl, inr}
 use Rattle.std.proofs.lemmas.Int.{ints}
 use Rattle.std.proofs.lemmas.List.Elements.{All-nil, All-cons, All-append, All-head, All-tail}
+use Rattle.commutative_ring.proofs.SmallCases.{low_or_positive}
 use Rattle.unimodular_cone.specs.declared.Mode.{Mode}
 use Rattle.unimodular_cone.specs.Paths.{Path}
 use Rattle.unimodular_cone.specs.Tree.{IsClosedAt}
@@ -18,12 +19,9 @@ use Rattle.perfect_walk.specs.Chains.{IsWalkRun, IsChain, after, entered, start_
 use Rattle.perfect_walk.specs.declared.journal.Journal.{Journal}
 use Rattle.walk_verdict.proofs.FirstSearch.{first_is_copositive}
 
-low_or_not : (b : ℤ) → (b ≤ℤ pos 0) ⊎ (pos 1 ≤ℤ b)
-low_or_not b = grind (arith, ints)
-
 module _ (n : ℕ) (q : ℕ → ℕ → ℤ) (depth : ℕ) (b : ℤ) (A : IsClosedAnswer Mode.Least n q depth b) where
   positive : pos 1 ≤ℤ b
-  positive = by (low_or_not b)
+  positive = by (low_or_positive b)
     where
       by : ((b ≤ℤ pos 0) ⊎ (pos 1 ≤ℤ b)) → pos 1 ≤ℤ b
       by (inr h) = h

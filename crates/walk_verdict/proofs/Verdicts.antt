@@ -4,6 +4,7 @@ use Rattle.std.specs.List.{All}
 use Rattle.std.proofs.Common.{arith, sym, ◌∙◌, ap, refl, subst, inl, inr}
 use Rattle.std.proofs.lemmas.Int.{ints}
 use Rattle.std.proofs.lemmas.List.Elements.{All-head, All-tail}
+use Rattle.commutative_ring.proofs.SmallCases.{positive_abs}
 use Rattle.exact_forms.specs.Forms.{inner}
 use Rattle.exact_forms.specs.Copositive.{IsCopositive}
 use Rattle.symmetric_matrix.specs.Symmetric.{Symmetric, entry}
@@ -26,14 +27,14 @@ use Rattle.perfect_walk.specs.Ends.{over_d, walk_end_of, IsWalkEnd}
 use Rattle.perfect_walk.specs.Parts.{IsHeld}
 use Rattle.walk_verdict.specs.Verdicts.{task_of, IsSeparator, IsVerdictRight, VerdictIsRight}
 use Rattle.walk_verdict.proofs.Searched.{IsSeenCopositive, last_seen, last_visit}
-use Rattle.walk_verdict.proofs.Weights.{IsPaired, some_magnitude, paired, weights_factor_of, weights_in_order}
+use Rattle.walk_verdict.proofs.Weights.{IsPaired, paired, weights_factor_of, weights_in_order}
 
 module _ (a : RationalMatrix) (depth : ℕ) where
   abbrev T : Task
   T = task_of a depth
 
   d_positive : 0 < nat_abs T.d
-  d_positive = some_magnitude T.d (denominator_positive a)
+  d_positive = positive_abs T.d (denominator_positive a)
 
   -- ---- a matrix whose product with S is below 0
   separator : (w : Symmetric) → w.size ≡ a.size → IsSearchAnswer Mode.Sign w.size (entry w) depth Copositive → inner w.size (entry w) (entry T.s) <ℤ pos 0

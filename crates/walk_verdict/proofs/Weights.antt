@@ -6,6 +6,7 @@ use Rattle.std.proofs.lemmas.Int.{ints}
 use Rattle.std.proofs.lemmas.List.Elements.{Contains-get_or}
 use Rattle.std.proofs.lemmas.List.FromFn.{length-map-range_with_len, get_or-map-range_with_len}
 use Rattle.commutative_ring.proofs.Ring.{num, ◌⊗◌, v0}
+use Rattle.commutative_ring.proofs.Expand.{times_one}
 use Rattle.exact_forms.specs.Rational.{Rational, whole, ratio, inverse, ◌*ℚ◌, ◌/ℚ◌}
 use Rattle.exact_forms.specs.Sums.{sum_ℚ}
 use Rattle.exact_forms.specs.Signs.{IsNonnegative}
@@ -27,18 +28,12 @@ use Rattle.exact_lp.specs.Weights.{over, weight_in, AreWeights}
 use Rattle.perfect_walk.specs.Ends.{terms_of}
 
 -- ---- over d
-times_one : (w : ℤ) → w *ℤ pos 1 ≡ w
-times_one w = omega (arith, ints)
-
 divided_back : (z : ℤ) (d : ℕ) → 0 < d → ratio z d *ℚ whole (pos d) ≡ whole z
 unfolding whole
 divided_back z d h =
     let one : d * 1 ≡ d = omega arith in
     mul-ratio z (pos d) d 1 h (omega arith)
     ∙ ratio_same (z *ℤ pos d) z (d * 1) 1 (omega arith) (omega arith) (times_one (z *ℤ pos d) ∙ ap (λ (k : ℕ). z *ℤ pos k) (sym one))
-
-pub some_magnitude : (d : ℤ) → pos 1 ≤ℤ d → 0 < nat_abs d
-some_magnitude d h = omega (arith, ints)
 
 quotient_is : (x y : Rational) → x /ℚ y ≡ x *ℚ inverse y.num y.den
 unfolding ◌/ℚ◌

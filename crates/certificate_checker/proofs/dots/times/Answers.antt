@@ -16,18 +16,24 @@ pub returns-in_err-sums-clause-wide : goal.returns-in_err-sums-clause-wide
 unfolding times_ops
 returns-in_err-sums-clause-wide c =
     let p = err_from_is_err_and c.from_residual.result c.from_residual.ensures.1 in
-    rw (p.1, p.2) (loop_refused is_owed (times_step c.args.n (at c.args.rows.now) (numbers c.args.x.now)) c.args.n c.loop-i.i _ c.loop-i-test.true c.loop-i.invariant.fits c.in_err-sums.ensures.wide)
+    rw (p.1, p.2)
+    (loop_refused is_owed (times_step c.args.n (at c.args.rows.now) (numbers c.args.x.now)) c.args.n c.loop-i.i _ c.loop-i-test.true c.loop-i.invariant.fits
+    c.in_err-sums.ensures.wide)
 
 pub loop-i-preserved : goal.loop-i-preserved
 loop-i-preserved c =
     let room : c.loop-i.i < length c.loop-i.sums = omega (arith, c.loop-i.invariant.room, c.requires, c.loop-i-test.true) in
-    let read : to_z w128 (of_z w128 c.in_ok-sums.field-0) ≡ rows_times c.args.n (at c.args.rows.now) (numbers c.args.x.now) c.loop-i.i = grind (arith, to_z-of_z) in
+    let read : to_z w128 (of_z w128 c.in_ok-sums.field-0) ≡ rows_times c.args.n (at c.args.rows.now) (numbers c.args.x.now) c.loop-i.i =
+    grind (arith, to_z-of_z) in
     record {
       room = length-set c.loop-i.sums c.loop-i.i _ ∙ c.loop-i.invariant.room;
       fits = loop_more is_owed (times_step c.args.n (at c.args.rows.now) (numbers c.args.x.now)) c.loop-i.i c.loop-i.invariant.fits c.in_ok-sums.ensures.fits;
-      sums = more_set (pos 0) c.loop-i.sums (rows_times c.args.n (at c.args.rows.now) (numbers c.args.x.now)) c.loop-i.i c.loop-i.i _ c.loop-i.invariant.sums room refl read;
+      sums = more_set (pos 0) c.loop-i.sums (rows_times c.args.n (at c.args.rows.now) (numbers c.args.x.now)) c.loop-i.i c.loop-i.i _ c.loop-i.invariant.sums
+          room refl read;
     }
 
 pub returns-clause-fits : goal.returns-clause-fits
 unfolding times_ops
-returns-clause-fits c = loop_end is_owed (times_step c.args.n (at c.args.rows.now) (numbers c.args.x.now)) c.args.n c.loop-i.i c.loop-i.auto.i-end c.loop-i-test.false c.loop-i.invariant.fits
+returns-clause-fits c =
+    loop_end is_owed (times_step c.args.n (at c.args.rows.now) (numbers c.args.x.now)) c.args.n c.loop-i.i c.loop-i.auto.i-end c.loop-i-test.false
+    c.loop-i.invariant.fits

@@ -20,13 +20,18 @@ returns-in_err-sums-clause-wide c =
 pub loop-p-preserved : goal.loop-p-preserved
 loop-p-preserved c =
     let room : c.loop-p.p < length c.loop-p.sums = omega (arith, c.loop-p.invariant.room, c.requires.few, c.loop-p-test.true) in
-    let step : (first_owed is_owed (steps (mediant_step (at c.args.v.now) c.args.i c.args.j) (c.loop-p.p + 1)) ≡ None) × (to_z w128 (of_z w128 c.in_ok-sums.field-0) ≡ at c.args.v.now c.args.i c.loop-p.p +ℤ at c.args.v.now c.args.j c.loop-p.p) =
+    let step : (first_owed is_owed (steps (mediant_step (at c.args.v.now) c.args.i c.args.j) (c.loop-p.p + 1)) ≡ None)
+    × (to_z w128 (of_z w128 c.in_ok-sums.field-0) ≡ at c.args.v.now c.args.i c.loop-p.p +ℤ at c.args.v.now c.args.j c.loop-p.p) =
     grind (arith, to_z-of_z, mediant_goes_on (at c.args.v.now) c.args.i c.args.j c.loop-p.p) in
     record {
       room = length-set c.loop-p.sums c.loop-p.p _ ∙ c.loop-p.invariant.room;
       fits = step.0;
-      sums = more_set (pos 0) c.loop-p.sums (λ p. at c.args.v.now c.args.i p +ℤ at c.args.v.now c.args.j p) c.loop-p.p c.loop-p.p _ c.loop-p.invariant.sums room refl step.1;
+      sums = more_set (pos 0) c.loop-p.sums (λ p. at c.args.v.now c.args.i p +ℤ at c.args.v.now c.args.j p) c.loop-p.p c.loop-p.p _ c.loop-p.invariant.sums room
+          refl step.1;
     }
 
 pub returns-clause-fits : goal.returns-clause-fits
-returns-clause-fits c = rw (mediant_ops_are c.args.n (at c.args.v.now) c.args.i c.args.j) (loop_end is_owed (mediant_step (at c.args.v.now) c.args.i c.args.j) c.args.n c.loop-p.p c.loop-p.auto.p-end c.loop-p-test.false c.loop-p.invariant.fits)
+returns-clause-fits c =
+    rw (mediant_ops_are c.args.n (at c.args.v.now) c.args.i c.args.j)
+    (loop_end is_owed (mediant_step (at c.args.v.now) c.args.i c.args.j) c.args.n c.loop-p.p c.loop-p.auto.p-end c.loop-p-test.false
+    c.loop-p.invariant.fits)

@@ -19,4 +19,5 @@ loop-i-preserved c =
     }
 
 pub returns-clause-symmetric : goal.returns-clause-symmetric
-returns-clause-symmetric c = λ i j li lj. c.loop-i.invariant.rows i j (omega arith) lj ∙ entry_flip c.args.w.now i j ∙ sym (c.loop-i.invariant.rows j i (omega arith) li)
+returns-clause-symmetric c = λ i j li lj. c.loop-i.invariant.rows i j (omega arith) lj ∙ entry_flip c.args.w.now i j
+    ∙ sym (c.loop-i.invariant.rows j i (omega arith) li)

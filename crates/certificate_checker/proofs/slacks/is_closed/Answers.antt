@@ -11,12 +11,16 @@ use Rattle.certificate_checker.proofs.slacks.is_closed.Goals as goal
 pub returns-then-slacks-a-lt0 : goal.returns-then-slacks-a-lt0
 returns-then-slacks-a-lt0 c =
     let g = from_half (products_with c.args.n (at c.args.v.now) (at c.args.images.now)) in
-    not_closed c.args.n g c.loop-a.a (numbers c.write_slacks.new.slacks c.loop-a.a) c.loop-a-test.true (c.write_slacks.ensures c.loop-a.a c.loop-a-test.true) (grind (arith, to_z-of_z))
+    not_closed c.args.n g c.loop-a.a (numbers c.write_slacks.new.slacks c.loop-a.a) c.loop-a-test.true (c.write_slacks.ensures c.loop-a.a c.loop-a-test.true)
+    (grind (arith, to_z-of_z))
 
 pub loop-a-preserved : goal.loop-a-preserved
 loop-a-preserved c =
     let g = from_half (products_with c.args.n (at c.args.v.now) (at c.args.images.now)) in
-    record { closed = closed_goes_on c.args.n g c.loop-a.a (numbers c.write_slacks.new.slacks c.loop-a.a) c.loop-a.invariant.closed (c.write_slacks.ensures c.loop-a.a c.loop-a-test.true) (grind (arith, to_z-of_z)) }
+    record {
+      closed = closed_goes_on c.args.n g c.loop-a.a (numbers c.write_slacks.new.slacks c.loop-a.a) c.loop-a.invariant.closed
+          (c.write_slacks.ensures c.loop-a.a c.loop-a-test.true) (grind (arith, to_z-of_z));
+    }
 
 pub returns : goal.returns
 unfolding is_closed

@@ -7,4 +7,5 @@ use Rattle.certificate_checker.specs.Dots.{products_with}
 use Rattle.certificate_checker.proofs.slacks.is_closed.Given as goal
 
 abbrev pub invariant-loop-a : goal.invariant-loop-a
-invariant-loop-a l = record { closed : list_all (λ a. int_le (pos 0) (slack l.n (from_half (products_with l.n (at l.v) (at l.images))) a)) (range_with_len 0 l.a) ≡ true }
+invariant-loop-a l =
+    record { closed : list_all (λ a. int_le (pos 0) (slack l.n (from_half (products_with l.n (at l.v) (at l.images))) a)) (range_with_len 0 l.a) ≡ true }

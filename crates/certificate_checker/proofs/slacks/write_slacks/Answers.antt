@@ -22,7 +22,8 @@ lessen-requires-clause-slacks c = λ k l.
     let g = from_half (products_with c.args.n (at c.args.v.now) (at c.args.images.now)) in
     let b = c.loop-b.b in
     let e : nat_abs (numbers c.loop-b.slacks k) ≡ nat_abs (lessened g k b) = ap nat_abs (c.loop-b.invariant.slacks k l) in
-    let bound = lessened_bound c.args.n g k b c.requires.few (omega (arith, l, c.loop-b-test.true)) (omega (arith, c.loop-b-test.true)) (half_small c.args.n (at c.args.v.now) (at c.args.images.now) c.requires.few c.requires.generators c.requires.images) in
+    let bound = lessened_bound c.args.n g k b c.requires.few (omega (arith, l, c.loop-b-test.true)) (omega (arith, c.loop-b-test.true))
+    (half_small c.args.n (at c.args.v.now) (at c.args.images.now) c.requires.few c.requires.generators c.requires.images) in
     omega (arith, e, bound)
 
 pub own_slack-requires-clause-row : goal.own_slack-requires-clause-row
@@ -43,7 +44,8 @@ loop-b-preserved c =
       row_room = c.write_row.array_long;
       room = length-set c.lessen.new.slacks b _ ∙ c.lessen.array_long;
       slacks = slacks_more b (from_half f) row c.loop-b.slacks c.lessen.new.slacks _ c.loop-b.invariant.slacks c.lessen.ensures own
-          (λ a l. c.write_row.ensures a (omega arith) ∙ sym (from_half_after f a b l)) (λ a l. c.write_row.ensures a l ∙ sym (from_half_before f a b (omega arith))) room;
+          (λ a l. c.write_row.ensures a (omega arith) ∙ sym (from_half_after f a b l)) (λ a l. c.write_row.ensures a l
+          ∙ sym (from_half_before f a b (omega arith))) room;
     }
 
 pub returns : goal.returns

@@ -24,5 +24,6 @@ loop-k-preserved c =
     let y = numbers c.args.y.now in
     let k = c.loop-k.k in
     let e = ap₂ (λ (a : ℤ) (b : ℤ). a +ℤ b) c.loop-k.invariant.sum (product_read_64 c.args.n k x y c.loop-k-test.true c.requires.left c.requires.right) in
-    let fits = fits_signed_from_abs w64 (dot k x y +ℤ x k *ℤ y k) (sum_in_64 c.args.n k x y c.requires.few c.loop-k-test.true c.requires.left c.requires.right) in
+    let fits = fits_signed_from_abs w64 (dot k x y +ℤ x k *ℤ y k)
+    (sum_in_64 c.args.n k x y c.requires.few c.loop-k-test.true c.requires.left c.requires.right) in
     record { sum = ap (λ (z : ℤ). to_z w64 (of_z w64 z)) e ∙ to_z-of_z fits ∙ sym (dot_more k x y) }

@@ -12,4 +12,5 @@ returns-in-Some c =
 pub returns-in-None : goal.returns-in-None
 returns-in-None c =
     follows_as c.args.n (at c.args.w.now) (at c.args.w.now) c.args.tree.now 0 200 unit_vectors (at c.widened.result) c.check_node.result
-    (λ k p lk lp. refl) (fewer c.args.n _ _ c.requires.few (λ k p lk lp. c.widened.ensures k p lk lp ∙ c.unit_rows-v.ensures k p lk lp)) c.check_node.ensures.follows
+    (λ k p lk lp. refl) (fewer c.args.n _ _ c.requires.few (λ k p lk lp. c.widened.ensures k p lk lp ∙ c.unit_rows-v.ensures k p lk lp))
+    c.check_node.ensures.follows

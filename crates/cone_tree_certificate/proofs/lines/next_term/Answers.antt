@@ -6,4 +6,6 @@ use Rattle.cone_tree_certificate.proofs.Steps.{next_reads, gives_same}
 use Rattle.cone_tree_certificate.proofs.lines.next_term.Goals as goal
 
 pub returns-clause-read : goal.returns-clause-read
-returns-clause-read c = next_reads (λ x. x) (term_of c.args.n) (missing_line c.args.lines.now.end) c.placed.result c.term.result (line_of c.in_ok-line.line) c.args.lines.now.lines c.next_line.new.lines.lines (search rules) (gives_same c.term.result _ c.term.ensures) c.placed.ensures
+returns-clause-read c =
+    next_reads (λ x. x) (term_of c.args.n) (missing_line c.args.lines.now.end) c.placed.result c.term.result (line_of c.in_ok-line.line) c.args.lines.now.lines
+    c.next_line.new.lines.lines (search rules) (gives_same c.term.result _ c.term.ensures) c.placed.ensures

@@ -17,7 +17,10 @@ pub loop-index-preserved : goal.loop-index-preserved
 loop-index-preserved c =
     let is = rw c.loop-index.invariant.end at c.in_ok-rows.ensures.read in
     record {
-      so_far = many_more (numbered_row c.args.n) (missing_line c.args.lines.now.end) (seen_rows c.args.n (take c.loop-index.index c.loop-index.rows)) _ c.args.n c.loop-index.index c.loop-index.lines.lines c.next_row.new.lines.lines (seen_row c.args.n c.in_ok-rows.field-0) c.loop-index-test.true is (rows_more c.args.n c.loop-index.rows c.loop-index.index c.in_ok-rows.field-0 (let room = c.loop-index.invariant.room in omega (arith, room))) ∙ c.loop-index.invariant.so_far;
+      so_far = many_more (numbered_row c.args.n) (missing_line c.args.lines.now.end) (seen_rows c.args.n (take c.loop-index.index c.loop-index.rows)) _ c.args.n
+          c.loop-index.index c.loop-index.lines.lines c.next_row.new.lines.lines (seen_row c.args.n c.in_ok-rows.field-0) c.loop-index-test.true is
+          (rows_more c.args.n c.loop-index.rows c.loop-index.index c.in_ok-rows.field-0 (let room = c.loop-index.invariant.room in omega (arith, room)))
+          ∙ c.loop-index.invariant.so_far;
       end = c.next_row.ensures.end ∙ c.loop-index.invariant.end;
       room = length-set c.loop-index.rows _ _ ∙ c.loop-index.invariant.room;
     }
@@ -26,8 +29,14 @@ pub returns-in_err-rows-clause-read : goal.returns-in_err-rows-clause-read
 returns-in_err-rows-clause-read c =
     let p = err_from_is_err_and c.from_residual.result c.from_residual.ensures.1 in
     let is = rw c.loop-index.invariant.end at c.in_err-rows.ensures.read in
-    rw (p.1, p.2) (refused_same (after_many (seen_rows c.args.n (take c.loop-index.index c.loop-index.rows)) (many (numbered_row c.args.n) (missing_line c.args.lines.now.end) (c.args.n - c.loop-index.index) c.loop-index.lines.lines)) (many (numbered_row c.args.n) (missing_line c.args.lines.now.end) c.args.n c.args.lines.now.lines) c.in_err-rows.field-0.0 (sym c.loop-index.invariant.so_far)
-    (many_refused (numbered_row c.args.n) (missing_line c.args.lines.now.end) (seen_rows c.args.n (take c.loop-index.index c.loop-index.rows)) c.args.n c.loop-index.index c.loop-index.lines.lines c.in_err-rows.field-0.0 c.loop-index-test.true is))
+    rw (p.1, p.2)
+    (refused_same
+    (after_many (seen_rows c.args.n (take c.loop-index.index c.loop-index.rows))
+    (many (numbered_row c.args.n) (missing_line c.args.lines.now.end) (c.args.n - c.loop-index.index) c.loop-index.lines.lines))
+    (many (numbered_row c.args.n) (missing_line c.args.lines.now.end) c.args.n c.args.lines.now.lines) c.in_err-rows.field-0.0
+    (sym c.loop-index.invariant.so_far)
+    (many_refused (numbered_row c.args.n) (missing_line c.args.lines.now.end) (seen_rows c.args.n (take c.loop-index.index c.loop-index.rows)) c.args.n
+    c.loop-index.index c.loop-index.lines.lines c.in_err-rows.field-0.0 c.loop-index-test.true is))
 
 pub returns-in_err-rows-clause-end : goal.returns-in_err-rows-clause-end
 returns-in_err-rows-clause-end c = c.next_row.ensures.end ∙ c.loop-index.invariant.end
@@ -37,7 +46,9 @@ returns-clause-read c =
     let auto = c.loop-index.auto.index-end in
     let test = c.loop-index-test.false in
     let all : c.loop-index.index ≡ c.args.n = omega (arith, auto, test) in
-    sym c.loop-index.invariant.so_far ∙ many_end (numbered_row c.args.n) (missing_line c.args.lines.now.end) (seen_rows c.args.n (take c.loop-index.index c.loop-index.rows)) c.args.n c.loop-index.index c.loop-index.lines.lines c.loop-index-test.false
+    sym c.loop-index.invariant.so_far
+    ∙ many_end (numbered_row c.args.n) (missing_line c.args.lines.now.end) (seen_rows c.args.n (take c.loop-index.index c.loop-index.rows)) c.args.n
+    c.loop-index.index c.loop-index.lines.lines c.loop-index-test.false
     ∙ ap (λ (i : ℕ). made (seen_rows c.args.n (take i c.loop-index.rows)) c.loop-index.lines.lines) all
   where
     made : List NumberedRow → List TextLine → Result (Many NumberedRow) VerdictFault

@@ -8,13 +8,16 @@ use Rattle.cone_tree_certificate.proofs.Steps.{many_refused, refused_same}
 use Rattle.cone_tree_certificate.proofs.lines.terms_in.Goals as goal
 
 pub loop-index-init : goal.loop-index-init
-loop-index-init c = let k : c.args.count - 0 ≡ c.args.count = omega arith in record { so_far = rw k (many_none c.new-terms.result _ c.new-terms.ensures); end = refl }
+loop-index-init c = let k : c.args.count - 0 ≡ c.args.count = omega arith in
+    record { so_far = rw k (many_none c.new-terms.result _ c.new-terms.ensures); end = refl }
 
 pub loop-index-preserved : goal.loop-index-preserved
 loop-index-preserved c =
     let is = rw c.loop-index.invariant.end at c.in_ok-next_term.ensures.read in
     record {
-      so_far = many_more (verdict_line (term_of c.args.n)) (missing_line c.args.lines.now.end) c.loop-index.terms _ c.args.count c.loop-index.index c.loop-index.lines.lines c.next_term.new.lines.lines c.in_ok-next_term.field-0 c.loop-index-test.true is c.in_ok-push.ensures.ok ∙ c.loop-index.invariant.so_far;
+      so_far = many_more (verdict_line (term_of c.args.n)) (missing_line c.args.lines.now.end) c.loop-index.terms _ c.args.count c.loop-index.index
+          c.loop-index.lines.lines c.next_term.new.lines.lines c.in_ok-next_term.field-0 c.loop-index-test.true is c.in_ok-push.ensures.ok
+          ∙ c.loop-index.invariant.so_far;
       end = c.next_term.ensures.end ∙ c.loop-index.invariant.end;
     }
 
@@ -22,11 +25,19 @@ pub returns-in_err-next_term-clause-read : goal.returns-in_err-next_term-clause-
 returns-in_err-next_term-clause-read c =
     let p = err_from_is_err_and c.from_residual.result c.from_residual.ensures.1 in
     let is = rw c.loop-index.invariant.end at c.in_err-next_term.ensures.read in
-    rw (p.1, p.2) (refused_same (after_many c.loop-index.terms (many (verdict_line (term_of c.args.n)) (missing_line c.args.lines.now.end) (c.args.count - c.loop-index.index) c.loop-index.lines.lines)) (many (verdict_line (term_of c.args.n)) (missing_line c.args.lines.now.end) c.args.count c.args.lines.now.lines) c.in_err-next_term.field-0.0 (sym c.loop-index.invariant.so_far)
-    (many_refused (verdict_line (term_of c.args.n)) (missing_line c.args.lines.now.end) c.loop-index.terms c.args.count c.loop-index.index c.loop-index.lines.lines c.in_err-next_term.field-0.0 c.loop-index-test.true is))
+    rw (p.1, p.2)
+    (refused_same
+    (after_many c.loop-index.terms
+    (many (verdict_line (term_of c.args.n)) (missing_line c.args.lines.now.end) (c.args.count - c.loop-index.index) c.loop-index.lines.lines))
+    (many (verdict_line (term_of c.args.n)) (missing_line c.args.lines.now.end) c.args.count c.args.lines.now.lines) c.in_err-next_term.field-0.0
+    (sym c.loop-index.invariant.so_far)
+    (many_refused (verdict_line (term_of c.args.n)) (missing_line c.args.lines.now.end) c.loop-index.terms c.args.count c.loop-index.index
+    c.loop-index.lines.lines c.in_err-next_term.field-0.0 c.loop-index-test.true is))
 
 pub returns-in_err-next_term-clause-end : goal.returns-in_err-next_term-clause-end
 returns-in_err-next_term-clause-end c = c.next_term.ensures.end ∙ c.loop-index.invariant.end
 
 pub returns-clause-read : goal.returns-clause-read
-returns-clause-read c = sym c.loop-index.invariant.so_far ∙ many_end (verdict_line (term_of c.args.n)) (missing_line c.args.lines.now.end) c.loop-index.terms c.args.count c.loop-index.index c.loop-index.lines.lines c.loop-index-test.false
+returns-clause-read c = sym c.loop-index.invariant.so_far
+    ∙ many_end (verdict_line (term_of c.args.n)) (missing_line c.args.lines.now.end) c.loop-index.terms c.args.count c.loop-index.index c.loop-index.lines.lines
+    c.loop-index-test.false

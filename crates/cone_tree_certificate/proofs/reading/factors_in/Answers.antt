@@ -14,8 +14,11 @@ returns-in_err-terms c =
 pub returns-in_err-end_of_lines : goal.returns-in_err-end_of_lines
 returns-in_err-end_of_lines c =
     let p = err_from_is_err_and c.from_residual-in_err-end_of_lines.result c.from_residual-in_err-end_of_lines.ensures.1 in
-    rw (p.1, p.2) (refused_same (no_more_lines c.terms_in.new.lines.lines (Ok (Factors c.args.n c.in_ok-terms.terms))) (factors_of c.args.n c.args.count c.args.lines.end c.args.lines.lines) c.in_err-end_of_lines.field-0.0
-    (terms_read c.args.n c.args.count c.args.lines.end c.args.lines.lines _ c.in_ok-terms.ensures.read) (c.in_err-end_of_lines.ensures (Ok (Factors c.args.n c.in_ok-terms.terms))))
+    rw (p.1, p.2)
+    (refused_same (no_more_lines c.terms_in.new.lines.lines (Ok (Factors c.args.n c.in_ok-terms.terms)))
+    (factors_of c.args.n c.args.count c.args.lines.end c.args.lines.lines) c.in_err-end_of_lines.field-0.0
+    (terms_read c.args.n c.args.count c.args.lines.end c.args.lines.lines _ c.in_ok-terms.ensures.read)
+    (c.in_err-end_of_lines.ensures (Ok (Factors c.args.n c.in_ok-terms.terms))))
 
 pub returns : goal.returns
 returns c = factors_end c.args.n c.args.count c.args.lines.end c.args.lines.lines _ c.in_ok-terms.ensures.read c.in_ok-end_of_lines.ensures

@@ -16,10 +16,12 @@ pub returns-in-OfFactors : goal.returns-in-OfFactors
 returns-in-OfFactors c =
     let is = rw c.of-lines.ensures at c.in_ok-header.ensures.read in
     reads_same (λ v. v) c.factors_in.result _ (verdict_of c.args.bytes.now)
-    (factors_text c.args.bytes.now c.in_ok-header.header c.next_header.new.lines.lines c.next_header.new.lines.end c.in-OfFactors.n c.in-OfFactors.count is c.in-OfFactors.is (c.next_header.ensures.end ∙ ap (λ (text : Content). text.end) c.of-lines.ensures)) c.factors_in.ensures
+    (factors_text c.args.bytes.now c.in_ok-header.header c.next_header.new.lines.lines c.next_header.new.lines.end c.in-OfFactors.n c.in-OfFactors.count is
+    c.in-OfFactors.is (c.next_header.ensures.end ∙ ap (λ (text : Content). text.end) c.of-lines.ensures)) c.factors_in.ensures
 
 pub returns-in-OfSeparator : goal.returns-in-OfSeparator
 returns-in-OfSeparator c =
     let is = rw c.of-lines.ensures at c.in_ok-header.ensures.read in
     reads_same (λ v. v) c.separator_in.result _ (verdict_of c.args.bytes.now)
-    (separator_text c.args.bytes.now c.in_ok-header.header c.next_header.new.lines.lines c.next_header.new.lines.end c.in-OfSeparator.n is c.in-OfSeparator.is (c.next_header.ensures.end ∙ ap (λ (text : Content). text.end) c.of-lines.ensures)) c.separator_in.ensures
+    (separator_text c.args.bytes.now c.in_ok-header.header c.next_header.new.lines.lines c.next_header.new.lines.end c.in-OfSeparator.n is c.in-OfSeparator.is
+    (c.next_header.ensures.end ∙ ap (λ (text : Content). text.end) c.of-lines.ensures)) c.separator_in.ensures

@@ -13,5 +13,6 @@ abbrev sized : ℕ → List ℤ → Symmetric
 sized size lower = record { size = size; lower = lower }
 
 pub returns : goal.returns
-returns c = separated-table c.args.table.now c.args.value c.args.tree (first_unlike int_eq (pos 0) (w_entries c.args.table.now)) c.in_ok-w.w (sym c.in_default.ensures.first)
+returns c = separated-table c.args.table.now c.args.value c.args.tree (first_unlike int_eq (pos 0) (w_entries c.args.table.now)) c.in_ok-w.w
+    (sym c.in_default.ensures.first)
     (c.in_ok-w.ensures ∙ ap (λ (lower : List ℤ). sized c.args.table.now.size lower) (c.deref.ensures.value ∙ c.in_ok-lower.ensures))

@@ -16,12 +16,15 @@ loop-column-preserved c =
     let is = rw (row, column) at c.get.ensures.value in
     let fits : to_z w128 (of_z w128 c.get.result) ≡ c.get.result = search (rules, to_z-of_z) in
     record {
-      so_far = column_more (entry_word c.args.w.now c.args.row) c.loop-column.column (signed_decimal c.get.result) c.args.into.now.items c.loop-column.into.items c.push_column.new.into.items (ap signed_decimal is) c.loop-column.invariant.so_far (rw fits at c.in_ok-push_column.ensures.ok);
+      so_far = column_more (entry_word c.args.w.now c.args.row) c.loop-column.column (signed_decimal c.get.result) c.args.into.now.items
+          c.loop-column.into.items c.push_column.new.into.items (ap signed_decimal is) c.loop-column.invariant.so_far
+          (rw fits at c.in_ok-push_column.ensures.ok);
       kept = Extends-then c.args.into.now.items c.loop-column.into.items c.push_column.new.into.items c.loop-column.invariant.kept c.push_column.ensures.kept;
     }
 
 pub returns-in_err-push_column-clause-kept : goal.returns-in_err-push_column-clause-kept
-returns-in_err-push_column-clause-kept c = Extends-then c.args.into.now.items c.loop-column.into.items c.push_column.new.into.items c.loop-column.invariant.kept c.push_column.ensures.kept
+returns-in_err-push_column-clause-kept c =
+    Extends-then c.args.into.now.items c.loop-column.into.items c.push_column.new.into.items c.loop-column.invariant.kept c.push_column.ensures.kept
 
 pub returns-clause-ok : goal.returns-clause-ok
 returns-clause-ok c =

@@ -9,12 +9,14 @@ loop-row-init c = record { so_far = flat_none (row_line c.args.w.now) c.args.int
 
 pub loop-row-preserved : goal.loop-row-preserved
 loop-row-preserved c = record {
-  so_far = rows_more c.args.w.now c.loop-row.row c.args.into.now.items c.loop-row.into.items c.push_row.new.into.items c.loop-row.invariant.so_far c.in_ok-push_row.ensures.ok;
+  so_far = rows_more c.args.w.now c.loop-row.row c.args.into.now.items c.loop-row.into.items c.push_row.new.into.items c.loop-row.invariant.so_far
+      c.in_ok-push_row.ensures.ok;
   kept = Extends-then c.args.into.now.items c.loop-row.into.items c.push_row.new.into.items c.loop-row.invariant.kept c.push_row.ensures.kept;
 }
 
 pub returns-in_err-push_row-clause-kept : goal.returns-in_err-push_row-clause-kept
-returns-in_err-push_row-clause-kept c = Extends-then c.args.into.now.items c.loop-row.into.items c.push_row.new.into.items c.loop-row.invariant.kept c.push_row.ensures.kept
+returns-in_err-push_row-clause-kept c =
+    Extends-then c.args.into.now.items c.loop-row.into.items c.push_row.new.into.items c.loop-row.invariant.kept c.push_row.ensures.kept
 
 pub returns-clause-ok : goal.returns-clause-ok
 returns-clause-ok c =
@@ -22,4 +24,5 @@ returns-clause-ok c =
     let test = c.loop-row-test.false in
     let auto = c.loop-row.auto.row-end in
     let all : c.loop-row.row ≡ c.args.w.now.size = omega (arith, n, test, auto) in
-    rows_end c.args.w.now c.args.into.now.items c.loop-row.into.items (c.loop-row.invariant.so_far ∙ ap (λ k. c.args.into.now.items ++ flat_map (row_line c.args.w.now) (range_with_len 0 k)) all)
+    rows_end c.args.w.now c.args.into.now.items c.loop-row.into.items (c.loop-row.invariant.so_far
+    ∙ ap (λ k. c.args.into.now.items ++ flat_map (row_line c.args.w.now) (range_with_len 0 k)) all)

@@ -17,13 +17,16 @@ loop-index-init c = record {
 
 pub loop-index-preserved : goal.loop-index-preserved
 loop-index-preserved c = record {
-  so_far = flat_more (λ (term : WeightedVector). line_of_words (term_words term)) c.args.terms.now c.loop-index.index _ c.args.into.now.items c.loop-index.into.items c.push_term.new.into.items c.at.ensures c.loop-index.invariant.so_far c.in_ok-push_term.ensures.ok;
+  so_far = flat_more (λ (term : WeightedVector). line_of_words (term_words term)) c.args.terms.now c.loop-index.index _ c.args.into.now.items
+      c.loop-index.into.items c.push_term.new.into.items c.at.ensures c.loop-index.invariant.so_far c.in_ok-push_term.ensures.ok;
   kept = Extends-then c.args.into.now.items c.loop-index.into.items c.push_term.new.into.items c.loop-index.invariant.kept c.push_term.ensures.kept;
-  narrow = all_taken_more IsNarrowTerm c.args.terms.now c.loop-index.index c.at.result.now c.at.ensures c.loop-index.invariant.narrow c.in_ok-push_term.ensures.narrow;
+  narrow = all_taken_more IsNarrowTerm c.args.terms.now c.loop-index.index c.at.result.now c.at.ensures c.loop-index.invariant.narrow
+      c.in_ok-push_term.ensures.narrow;
 }
 
 pub returns-in_err-push_term-clause-kept : goal.returns-in_err-push_term-clause-kept
-returns-in_err-push_term-clause-kept c = Extends-then c.args.into.now.items c.loop-index.into.items c.push_term.new.into.items c.loop-index.invariant.kept c.push_term.ensures.kept
+returns-in_err-push_term-clause-kept c =
+    Extends-then c.args.into.now.items c.loop-index.into.items c.push_term.new.into.items c.loop-index.invariant.kept c.push_term.ensures.kept
 
 pub returns-clause-ok : goal.returns-clause-ok
 unfolding written_terms
@@ -31,7 +34,8 @@ returns-clause-ok c =
     let n = c.len-index-end.ensures in
     let test = c.loop-index-test.false in
     let all : length c.args.terms.now ≤ c.loop-index.index = omega (arith, n, test) in
-    flat_all (λ (term : WeightedVector). line_of_words (term_words term)) c.args.terms.now c.loop-index.index c.args.into.now.items c.loop-index.into.items all c.loop-index.invariant.so_far
+    flat_all (λ (term : WeightedVector). line_of_words (term_words term)) c.args.terms.now c.loop-index.index c.args.into.now.items c.loop-index.into.items all
+    c.loop-index.invariant.so_far
 
 pub returns-clause-narrow : goal.returns-clause-narrow
 returns-clause-narrow c =

@@ -11,12 +11,14 @@ loop-index-init c = record { so_far = flat_none (λ (line : TreeLine). line_of_w
 
 pub loop-index-preserved : goal.loop-index-preserved
 loop-index-preserved c = record {
-  so_far = flat_more (λ (line : TreeLine). line_of_words (tree_words line)) c.args.tree.now c.loop-index.index _ c.args.into.now.items c.loop-index.into.items c.push_tree_line.new.into.items c.at.ensures c.loop-index.invariant.so_far c.in_ok-push_tree_line.ensures.ok;
+  so_far = flat_more (λ (line : TreeLine). line_of_words (tree_words line)) c.args.tree.now c.loop-index.index _ c.args.into.now.items c.loop-index.into.items
+      c.push_tree_line.new.into.items c.at.ensures c.loop-index.invariant.so_far c.in_ok-push_tree_line.ensures.ok;
   kept = Extends-then c.args.into.now.items c.loop-index.into.items c.push_tree_line.new.into.items c.loop-index.invariant.kept c.push_tree_line.ensures.kept;
 }
 
 pub returns-in_err-push_tree_line-clause-kept : goal.returns-in_err-push_tree_line-clause-kept
-returns-in_err-push_tree_line-clause-kept c = Extends-then c.args.into.now.items c.loop-index.into.items c.push_tree_line.new.into.items c.loop-index.invariant.kept c.push_tree_line.ensures.kept
+returns-in_err-push_tree_line-clause-kept c =
+    Extends-then c.args.into.now.items c.loop-index.into.items c.push_tree_line.new.into.items c.loop-index.invariant.kept c.push_tree_line.ensures.kept
 
 pub returns-clause-ok : goal.returns-clause-ok
 unfolding written_tree
@@ -24,4 +26,5 @@ returns-clause-ok c =
     let n = c.len-index-end.ensures in
     let test = c.loop-index-test.false in
     let all : length c.args.tree.now ≤ c.loop-index.index = omega (arith, n, test) in
-    flat_all (λ (line : TreeLine). line_of_words (tree_words line)) c.args.tree.now c.loop-index.index c.args.into.now.items c.loop-index.into.items all c.loop-index.invariant.so_far
+    flat_all (λ (line : TreeLine). line_of_words (tree_words line)) c.args.tree.now c.loop-index.index c.args.into.now.items c.loop-index.into.items all
+    c.loop-index.invariant.so_far

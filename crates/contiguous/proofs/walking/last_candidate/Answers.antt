@@ -6,10 +6,11 @@ use Rattle.contiguous.specs.declared.neighbour.Tighten.{Tighten}
 use Rattle.contiguous.specs.declared.tightening.Candidate.{Candidate}
 use Rattle.contiguous.specs.declared.tightening.TightenFail.{TightenFail}
 use Rattle.contiguous.specs.declared.tightening.TightenFail.TheVariants as fail
-use Rattle.contiguous.specs.Tightenings.{line_along, last_tighten, tighten_ops, neighbour_is_owed, IsTightenable}
+use Rattle.contiguous.specs.Tightenings.{line_along, last_tighten, tighten_ops, neighbour_is_owed, IsTightenable, IsTightenAlong}
 use Rattle.contiguous.specs.Making.{IsTightenMade, IsMakingRefused}
 use Rattle.contiguous.proofs.Makings.{only_memory}
 use Rattle.contiguous.proofs.Ways.{last_at, searched_none, again_at, searched_again}
+use Rattle.contiguous.proofs.walking.last_candidate.Goals.{After-at}
 use Rattle.contiguous.proofs.walking.last_candidate.Goals as goal
 
 is_last : (ts : List Tighten) (t : Tighten) (n : ℕ) → n ≡ length ts → slice_get ts (n - 1) ≡ Some t → last_tighten ts ≡ Some t
@@ -33,17 +34,20 @@ pub returns-then-len-eq0 : goal.returns-then-len-eq0
 returns-then-len-eq0 c =
     searched_none (line_along c.args.p_matrix.now c.args.mu c.args.r_matrix.now) c.args.steps.now (omega (arith, c.len.ensures, c.if-len-eq0.true))
 
+last : (c : After-at) → IsTightenAlong (line_along c.args.p_matrix.now c.args.mu c.args.r_matrix.now) c.at.result.now
+last c =
+    again_at (line_along c.args.p_matrix.now c.args.mu c.args.r_matrix.now) c.args.steps.now c.at.result.now c.requires.again
+    (is_last c.args.steps.now c.at.result.now c.len-2.result c.len-2.ensures c.at.ensures)
+
 pub tighten-requires-clause-tightenable : goal.tighten-requires-clause-tightenable
 tighten-requires-clause-tightenable c =
     tightenable_back c.args.p_matrix.now c.args.r_matrix.now c.args.mu c.at.result.now.vector (search rules)
-    (again_at (line_along c.args.p_matrix.now c.args.mu c.args.r_matrix.now) c.args.steps.now c.at.result.now c.requires.again
-    (is_last c.args.steps.now c.at.result.now c.len-2.result c.len-2.ensures c.at.ensures)).tightenable
+    (last (goal.at.tighten-requires-clause-tightenable c).After-at).tightenable
 
 pub want_of_memory-requires : goal.want_of_memory-requires
 want_of_memory-requires c =
     memory_alone c.args.p_matrix.now c.args.r_matrix.now c.args.mu c.at.result.now.vector c.in-Err.fail (search rules)
-    (again_at (line_along c.args.p_matrix.now c.args.mu c.args.r_matrix.now) c.args.steps.now c.at.result.now c.requires.again
-    (is_last c.args.steps.now c.at.result.now c.len-2.result c.len-2.ensures c.at.ensures)).owes c.in-Err.ensures.refused
+    (last (goal.at.want_of_memory-requires c).After-at).owes c.in-Err.ensures.refused
 
 pub returns-in-Ok : goal.returns-in-Ok
 returns-in-Ok c =

@@ -1,6 +1,6 @@
 use Rattle.std.proofs.Common.{refl}
 use Rattle.exact_forms.specs.Triangles.{triangle}
-use Rattle.copositive_minimum.proofs.Lowers.{narrow, lower_of}
+use Rattle.symmetric_matrix.proofs.SmallLower.{narrow, lower_of}
 use Rattle.copositive_minimum.proofs.tests.three.Goals as goal
 
 pub from_lower-requires-clause-lower : goal.from_lower-requires-clause-lower

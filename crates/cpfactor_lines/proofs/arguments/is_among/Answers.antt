@@ -11,4 +11,5 @@ use Rattle.cpfactor_lines.proofs.arguments.is_among.Goals as goal
 
 pub returns : goal.returns
 returns c =
-    any_from_yields_List (λ (w : String Global). bytes_eq (string_bytes w) c.args.word.now) _ _ c.any.result c.any.ensures.ran (YieldsList-from_slice c.args.words.now cc) (λ x b q k. search (rules, tests)) ∙ sym (is_among-texts c.args.words.now c.args.word.now)
+    any_from_yields_List (λ (w : String Global). bytes_eq (string_bytes w) c.args.word.now) _ _ c.any.result c.any.ensures.ran
+    (YieldsList-from_slice c.args.words.now cc) (λ x b q k. search (rules, tests)) ∙ sym (is_among-texts c.args.words.now c.args.word.now)

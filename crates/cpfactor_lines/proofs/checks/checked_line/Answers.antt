@@ -5,4 +5,5 @@ use Rattle.cpfactor_lines.proofs.checks.checked_line.Goals as goal
 
 pub returns-in-NotNegative : goal.returns-in-NotNegative
 returns-in-NotNegative c =
-    subst (λ (k : Checked). IfOk c.failed_line-in-NotNegative.result (λ text. text.items ≡ checked_text k)) (sym c.in-NotNegative.is) c.failed_line-in-NotNegative.ensures
+    subst (λ (k : Checked). IfOk c.failed_line-in-NotNegative.result (λ text. text.items ≡ checked_text k)) (sym c.in-NotNegative.is)
+    c.failed_line-in-NotNegative.ensures

@@ -18,7 +18,8 @@ loop-k-preserved c = record {
 pub returns-clause-text : goal.returns-clause-text
 returns-clause-text c =
     let all : length c.args.terms.now ≤ c.loop-k.k = omega (arith, c.len-k-end.ensures, c.loop-k-test.false) in
-    terms_appended c.args.n c.args.terms.now c.len.result c.loop-k.k c.args.into.now.items _ _ c.len.ensures.value all c.in_ok-push_factored.ensures c.loop-k.invariant.so_far
+    terms_appended c.args.n c.args.terms.now c.len.result c.loop-k.k c.args.into.now.items _ _ c.len.ensures.value all c.in_ok-push_factored.ensures
+    c.loop-k.invariant.so_far
 
 pub returns-clause-whole : goal.returns-clause-whole
 returns-clause-whole c =

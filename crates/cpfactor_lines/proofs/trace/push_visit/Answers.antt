@@ -11,6 +11,7 @@ pub returns : goal.returns
 returns c =
     let fits : to_z w128 (of_z w128 c.args.visit.now.mu) ≡ c.args.visit.now.mu = search (rules, to_z-of_z) in
     on_ok_weaker c.push_vectors.result (λ e.
-    visit_made c.args.number c.len.result c.args.visit.now c.args.into.now.items _ _ _ _ _ c.len.ensures.value c.in_ok-push_comment.ensures c.in_ok-push_matrix.ensures
+    visit_made c.args.number c.len.result c.args.visit.now c.args.into.now.items _ _ _ _ _ c.len.ensures.value c.in_ok-push_comment.ensures
+    c.in_ok-push_matrix.ensures
     (c.in_ok-push_comment-2.ensures ∙ ap (λ (mu : ℤ). c.push_matrix.new.into.items ++ comment (codes "minimum" ∷ signed_decimal mu ∷ [])) fits)
     c.in_ok-push_comment-3.ensures e) c.push_vectors.ensures

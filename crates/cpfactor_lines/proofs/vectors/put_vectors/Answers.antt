@@ -9,7 +9,8 @@ pub returns-in-Ok : goal.returns-in-Ok
 returns-in-Ok g c =
     let head : c.push_line.new.into.items ≡ count_line (length c.args.vectors.now) =
     c.in-Ok.ensures ∙ ap₂ (λ (t : List ℕ) (n : ℕ). t ++ count_line n) c.clear.ensures.items c.len.ensures.value in
-    subst (λ t. IsPut t (sink_shown g.K.Sink c.args.sink.now c.put_listed.new.sink) c.put_listed.result) (vectors_lines c.args.vectors.now c.push_line.new.into.items head) c.put_listed.ensures
+    subst (λ t. IsPut t (sink_shown g.K.Sink c.args.sink.now c.put_listed.new.sink) c.put_listed.result)
+    (vectors_lines c.args.vectors.now c.push_line.new.into.items head) c.put_listed.ensures
 
 pub returns-in-Err : goal.returns-in-Err
 returns-in-Err g c =

@@ -11,4 +11,5 @@ returns-in-Done g c =
 
 pub returns-in_default : goal.returns-in_default
 returns-in_default g c =
-    put_stopped c.args.text.now.items c.deref.result.now (vectors_text c.args.vectors.now) _ _ _ _ c.put.result c.in_default.not-Done c.deref.ensures.value c.put.ensures.front c.put.ensures.nothing c.put.ensures.failed c.put.ensures.quiet
+    put_stopped c.args.text.now.items c.deref.result.now (vectors_text c.args.vectors.now) _ _ _ _ c.put.result c.in_default.not-Done c.deref.ensures.value
+    c.put.ensures.front c.put.ensures.nothing c.put.ensures.failed c.put.ensures.quiet

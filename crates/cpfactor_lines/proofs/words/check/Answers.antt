@@ -13,6 +13,8 @@ returns-in_err-file-clause-usage c =
 
 pub returns-clause-command : goal.returns-clause-command
 returns-clause-command c =
-    let file = argument_text _ c.args.words.now c.in_ok-file.field-0 0 c.index-words-file.result c.in_ok-file.ensures.read (omega arith) c.index-words-file.is in
-    let proof = argument_text _ c.args.words.now c.in_ok-file.field-0 1 c.index-words-proof.result c.in_ok-file.ensures.read (omega arith) c.index-words-proof.is in
+    let file = argument_text _ c.args.words.now c.in_ok-file.field-0 0 c.index-words-file.result c.in_ok-file.ensures.read (omega arith)
+    c.index-words-file.is in
+    let proof = argument_text _ c.args.words.now c.in_ok-file.field-0 1 c.index-words-proof.result c.in_ok-file.ensures.read (omega arith)
+    c.index-words-proof.is in
     rw (c.as_str.ensures.value, c.as_str-2.ensures.value, file, proof) (read_as-request check (texts c.args.words.now) c.in_ok-file.ensures.read.no_fault)

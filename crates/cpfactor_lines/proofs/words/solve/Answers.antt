@@ -18,6 +18,7 @@ returns-in_err-file-clause-usage c =
 
 pub returns-clause-command : goal.returns-clause-command
 returns-clause-command c =
-    let file = argument_text _ c.args.words.now c.in_ok-file.field-0 0 c.index-words-file.result c.in_ok-file.ensures.read (omega arith) c.index-words-file.is in
+    let file = argument_text _ c.args.words.now c.in_ok-file.field-0 0 c.index-words-file.result c.in_ok-file.ensures.read (omega arith)
+    c.index-words-file.is in
     rw (c.as_str.ensures.value, file, c.limits.ensures.value, c.workers.ensures.value, c.is_among.ensures)
     (read_as-request solve (texts c.args.words.now) c.in_ok-file.ensures.read.no_fault)

@@ -16,7 +16,8 @@ use Rattle.cpfactor_top.proofs.checking.check_read.Goals as goal
 pub returns-in-Whole-clause-ended : goal.returns-in-Whole-clause-ended
 returns-in-Whole-clause-ended g c file read =
     let bytes : AreRead proof_file file c.args.bytes.now = subst (λ (end : ReadEnd). IsRead proof_file file end c.args.bytes.now) c.in-Whole.is read in
-    ends_by_follows (IsProofAnswer c.args.a.now c.args.bytes.now) (IsFileAnswer proof_file (IsProofAnswer c.args.a.now) file) _ (λ e text h. inl (c.args.bytes.now, bytes, h)) _ c.check_proof.ensures
+    ends_by_follows (IsProofAnswer c.args.a.now c.args.bytes.now) (IsFileAnswer proof_file (IsProofAnswer c.args.a.now) file) _
+    (λ e text h. inl (c.args.bytes.now, bytes, h)) _ c.check_proof.ensures
 
 pub returns-in-TooLong-clause-ended : goal.returns-in-TooLong-clause-ended
 returns-in-TooLong-clause-ended g c file read =

@@ -16,7 +16,8 @@ returns-in-Ok g c =
     c.in-Ok.ensures ∙ ap₂ least_text (to_z-of_z w128 c.args.d c.ranges.d) (to_z-of_z w128 c.args.minimum c.ranges.minimum) in
     let text = minimum_lines c.args.d c.args.minimum c.args.vectors.now c.in-Ok.line.items first in
     let shown = sink_shown g.K.Sink c.args.sink.now c.put_with_vectors.new.sink in
-    ended_by_put (ending Fine) c.by.result c.after.result (minimum_text c.args.d c.args.minimum c.args.vectors.now) shown c.put_with_vectors.result c.by.ensures c.after.ensures
+    ended_by_put (ending Fine) c.by.result c.after.result (minimum_text c.args.d c.args.minimum c.args.vectors.now) shown c.put_with_vectors.result c.by.ensures
+    c.after.ensures
     (subst (λ (t : List ℕ). IsPut t shown c.put_with_vectors.result) text c.put_with_vectors.ensures)
 
 pub returns-in-Err : goal.returns-in-Err

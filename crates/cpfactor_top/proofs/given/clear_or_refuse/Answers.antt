@@ -17,7 +17,9 @@ returns-in-Ok-clause-positive g c = cleared_positive c.args.a.now c.in-Ok.made.0
 
 pub returns-in-Err-Wide-clause-refused : goal.returns-in-Err-Wide-clause-refused
 returns-in-Err-Wide-clause-refused g c =
-    let refused : answer is_placed_owed (clear_ops c.args.a.now) (cleared_of c.args.a.now) ≡ Err (record { row = c.in-Err-Wide.row; column = c.in-Err-Wide.column; op = c.in-Err-Wide.op }) = rw c.in-Err-Wide.field-0-is at c.in-Err-Wide.ensures.wide in
+    let refused : answer is_placed_owed (clear_ops c.args.a.now) (cleared_of c.args.a.now)
+    ≡ Err (record { row = c.in-Err-Wide.row; column = c.in-Err-Wide.column; op = c.in-Err-Wide.op }) =
+    rw c.in-Err-Wide.field-0-is at c.in-Err-Wide.ensures.wide in
     let cause = Overflow (Clear c.in-Err-Wide.row c.in-Err-Wide.column c.in-Err-Wide.op) in
     ends_by_only (Refuses (IsClearRefused None c.args.a.now)) (ending_with None cause) (refusal_text cause) _ c.refuse.result
     (record { op = _; first = some_of_err is_placed_owed (clear_ops c.args.a.now) (cleared_of c.args.a.now) _ refused; ended = refl }, refl) c.refuse.ensures

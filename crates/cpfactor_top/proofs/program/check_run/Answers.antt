@@ -17,7 +17,8 @@ returns-clause-usage g c position at =
 
 pub returns-clause-due : goal.returns-clause-due
 returns-clause-due g c e due =
-    check_yields (texts c.args.words.now) (file_shown g.F.Files c.args.files.now c.check_words.new.files) (g.F.Files.told c.args.files.now) _ c.check_words.result e (λ n. refl) c.check_words.ensures.ended due
+    check_yields (texts c.args.words.now) (file_shown g.F.Files c.args.files.now c.check_words.new.files) (g.F.Files.told c.args.files.now) _
+    c.check_words.result e (λ n. refl) c.check_words.ensures.ended due
 
 pub returns-clause-refusal : goal.returns-clause-refusal
 returns-clause-refusal g c checked same =

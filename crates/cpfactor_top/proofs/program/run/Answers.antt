@@ -18,7 +18,8 @@ returns-clause-usage g c position at =
 
 pub returns-clause-due : goal.returns-clause-due
 returns-clause-due g c e due =
-    words_yield (texts c.args.words.now) (file_shown g.F.Files c.args.files.now c.answer.new.files) (g.F.Files.told c.args.files.now) _ c.answer.result e (λ n. refl) c.answer.ensures.ended due
+    words_yield (texts c.args.words.now) (file_shown g.F.Files c.args.files.now c.answer.new.files) (g.F.Files.told c.args.files.now) _ c.answer.result e
+    (λ n. refl) c.answer.ensures.ended due
 
 pub returns-clause-quiet_sink : goal.returns-clause-quiet_sink
 returns-clause-quiet_sink g c other =
@@ -28,4 +29,5 @@ pub returns-clause-first_cone : goal.returns-clause-first_cone
 returns-clause-first_cone g c easy =
     let due = easy_request_due (texts c.args.words.now) (g.F.Files.told c.args.files.now) easy in
     factors_after_reading due.0 c.answer.result due.2
-    (words_yield (texts c.args.words.now) (file_shown g.F.Files c.args.files.now c.answer.new.files) (g.F.Files.told c.args.files.now) _ c.answer.result due.0 (λ n. refl) c.answer.ensures.ended due.1)
+    (words_yield (texts c.args.words.now) (file_shown g.F.Files c.args.files.now c.answer.new.files) (g.F.Files.told c.args.files.now) _ c.answer.result due.0
+    (λ n. refl) c.answer.ensures.ended due.1)

@@ -21,18 +21,21 @@ put_low-requires-clause-fits g c =
 pub put_minimum-requires-clause-fits : goal.put_minimum-requires-clause-fits
 put_minimum-requires-clause-fits g c =
     let minimum : to_z w128 (of_z w128 c.in-Found.minimum) ≡ c.in-Found.minimum = search (rules, to_z-of_z) in
-    subst FitsInt (sym minimum) (found_narrow c.args.s.now.size (entry c.args.s.now) c.args.depth c.in-Found.minimum c.in-Found.vectors c.in-Found.ensures.answer)
+    subst FitsInt (sym minimum)
+    (found_narrow c.args.s.now.size (entry c.args.s.now) c.args.depth c.in-Found.minimum c.in-Found.vectors c.in-Found.ensures.answer)
 
 pub returns-in-Found : goal.returns-in-Found
 returns-in-Found g c =
     let minimum : to_z w128 (of_z w128 c.in-Found.minimum) ≡ c.in-Found.minimum = search (rules, to_z-of_z) in
-    found_ends Mode.Least c.args.depth c.args.s.now c.args.d (SearchAnswer.Found c.in-Found.minimum c.in-Found.vectors) _ _ _ _ c.in-Found.ensures.answer c.in-Found.ensures.holds refl
+    found_ends Mode.Least c.args.depth c.args.s.now c.args.d (SearchAnswer.Found c.in-Found.minimum c.in-Found.vectors) _ _ _ _ c.in-Found.ensures.answer
+    c.in-Found.ensures.holds refl
     (ap₂ (λ d m. minimum_text d m c.in-Found.vectors) (to_z-of_z w128 c.args.d c.ranges.d) minimum) c.put_minimum.ensures
 
 pub returns-in-Low : goal.returns-in-Low
 returns-in-Low g c =
     let value : to_z w128 (of_z w128 c.in-Low.value) ≡ c.in-Low.value = search (rules, to_z-of_z) in
-    low_ends Mode.Least c.args.depth c.args.s.now c.args.d _ c.in-Low.value _ c.in-Low.vector c.in-Low.path _ _ c.in-Low.ensures.answer c.in-Low.ensures.holds (to_z-of_z w128 c.args.d c.ranges.d) value c.put_low.ensures
+    low_ends Mode.Least c.args.depth c.args.s.now c.args.d _ c.in-Low.value _ c.in-Low.vector c.in-Low.path _ _ c.in-Low.ensures.answer c.in-Low.ensures.holds
+    (to_z-of_z w128 c.args.d c.ranges.d) value c.put_low.ensures
 
 pub returns-in-Depth : goal.returns-in-Depth
 returns-in-Depth g c = depth_ends Mode.Least c.args.depth c.args.s.now c.args.d c.in-Depth.path _ _ c.in-Depth.ensures.answer c.refuse.ensures

@@ -19,8 +19,12 @@ returns-in-Ok g c =
     let cleared : IsCleared c.args.a.now c.in-Ok.s (nat_abs c.in-Ok.d) = c.in-Ok.ensures.cleared in
     ends_by_follows (IsFound c.args.mode c.args.depth c.in-Ok.s c.in-Ok.d) (IsSearched c.args.mode c.args.depth c.args.a.now) _
     (found_follows c.args.mode c.args.depth c.args.a.now c.in-Ok.s c.in-Ok.d c.in-Ok.ensures.clearable positive cleared) _
-    (subst (λ k. EndsBy (IsFound c.args.mode c.args.depth c.in-Ok.s c.in-Ok.d) (sink_shown g.K.Sink k c.search_whole.new.sink) c.search_whole.result) c.in-Ok.ensures.silent
-    (subst (λ d. EndsBy (IsFound c.args.mode c.args.depth c.in-Ok.s d) (sink_shown g.K.Sink c.clear_or_refuse.new.sink c.search_whole.new.sink) c.search_whole.result) d c.search_whole.ensures))
+    (subst (λ k. EndsBy (IsFound c.args.mode c.args.depth c.in-Ok.s c.in-Ok.d) (sink_shown g.K.Sink k c.search_whole.new.sink) c.search_whole.result)
+    c.in-Ok.ensures.silent
+    (subst (λ d. EndsBy (IsFound c.args.mode c.args.depth c.in-Ok.s d) (sink_shown g.K.Sink c.clear_or_refuse.new.sink c.search_whole.new.sink)
+    c.search_whole.result) d c.search_whole.ensures))
 
 pub returns-in-Err : goal.returns-in-Err
-returns-in-Err g c = ends_by_follows (Refuses (IsClearRefused None c.args.a.now)) (IsSearched c.args.mode c.args.depth c.args.a.now) _ (λ e text h. inl h) _ c.in-Err.ensures.refused
+returns-in-Err g c =
+    ends_by_follows (Refuses (IsClearRefused None c.args.a.now)) (IsSearched c.args.mode c.args.depth c.args.a.now) _ (λ e text h. inl h) _
+    c.in-Err.ensures.refused

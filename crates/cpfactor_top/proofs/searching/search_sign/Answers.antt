@@ -17,12 +17,14 @@ put_low-requires-clause-fits g c =
 
 pub returns-in-Copositive : goal.returns-in-Copositive
 returns-in-Copositive g c =
-    found_ends Mode.Sign c.args.depth c.args.s.now c.args.d SearchAnswer.Copositive _ _ _ _ c.in-Copositive.ensures.answer c.in-Copositive.ensures.holds refl (ap copositive_text c.n.ensures.value) c.put_copositive.ensures
+    found_ends Mode.Sign c.args.depth c.args.s.now c.args.d SearchAnswer.Copositive _ _ _ _ c.in-Copositive.ensures.answer c.in-Copositive.ensures.holds refl
+    (ap copositive_text c.n.ensures.value) c.put_copositive.ensures
 
 pub returns-in-Low : goal.returns-in-Low
 returns-in-Low g c =
     let value : to_z w128 (of_z w128 c.in-Low.value) ≡ c.in-Low.value = search (rules, to_z-of_z) in
-    low_ends Mode.Sign c.args.depth c.args.s.now c.args.d _ c.in-Low.value _ c.in-Low.vector c.in-Low.path _ _ c.in-Low.ensures.answer c.in-Low.ensures.holds (to_z-of_z w128 c.args.d c.ranges.d) value c.put_low.ensures
+    low_ends Mode.Sign c.args.depth c.args.s.now c.args.d _ c.in-Low.value _ c.in-Low.vector c.in-Low.path _ _ c.in-Low.ensures.answer c.in-Low.ensures.holds
+    (to_z-of_z w128 c.args.d c.ranges.d) value c.put_low.ensures
 
 pub returns-in-Depth : goal.returns-in-Depth
 returns-in-Depth g c = depth_ends Mode.Sign c.args.depth c.args.s.now c.args.d c.in-Depth.path _ _ c.in-Depth.ensures.answer c.refuse.ensures

@@ -11,7 +11,10 @@ pub returns-in-Ok : goal.returns-in-Ok
 returns-in-Ok g c =
     ends_by_follows (IsSearched c.args.mode c.args.depth c.in-Ok.a) (IsBytesAnswer (IsSearched c.args.mode c.args.depth) c.args.bytes.now) _
     (λ e text h. inr (c.in-Ok.a, c.in-Ok.ensures.read, h)) _
-    (subst (λ k. EndsBy (IsSearched c.args.mode c.args.depth c.in-Ok.a) (sink_shown g.K.Sink k c.search_matrix.new.sink) c.search_matrix.result) c.in-Ok.ensures.silent c.search_matrix.ensures)
+    (subst (λ k. EndsBy (IsSearched c.args.mode c.args.depth c.in-Ok.a) (sink_shown g.K.Sink k c.search_matrix.new.sink) c.search_matrix.result)
+    c.in-Ok.ensures.silent c.search_matrix.ensures)
 
 pub returns-in-Err : goal.returns-in-Err
-returns-in-Err g c = ends_by_follows (Refuses (IsFaultDue c.args.bytes.now)) (IsBytesAnswer (IsSearched c.args.mode c.args.depth) c.args.bytes.now) _ (λ e text h. inl h) _ c.in-Err.ensures.refused
+returns-in-Err g c =
+    ends_by_follows (Refuses (IsFaultDue c.args.bytes.now)) (IsBytesAnswer (IsSearched c.args.mode c.args.depth) c.args.bytes.now) _ (λ e text h. inl h) _
+    c.in-Err.ensures.refused

@@ -16,8 +16,10 @@ use Rattle.cpfactor_top.proofs.solving.solve_text.Goals as goal
 
 pub returns-in-Ok : goal.returns-in-Ok
 returns-in-Ok g c =
-    if_ok_follows (λ r. IsWalkAnswer c.args.trace c.args.limits c.args.a.now r.0 r.1.items) (λ r. IsWalkAnswer c.args.trace c.args.limits c.args.a.now r.0 r.1.items)
-    (λ r. IsSolved c.args.trace c.args.limits c.args.a.now r.0 r.1.items) c.solve_cleared.result (λ r h k. inr h) c.solve_cleared.ensures c.solve_cleared.ensures
+    if_ok_follows (λ r. IsWalkAnswer c.args.trace c.args.limits c.args.a.now r.0 r.1.items)
+    (λ r. IsWalkAnswer c.args.trace c.args.limits c.args.a.now r.0 r.1.items)
+    (λ r. IsSolved c.args.trace c.args.limits c.args.a.now r.0 r.1.items) c.solve_cleared.result (λ r h k. inr h) c.solve_cleared.ensures
+    c.solve_cleared.ensures
 
 pub solve_cleared-requires-clause-positive : goal.solve_cleared-requires-clause-positive
 solve_cleared-requires-clause-positive g c =
@@ -26,7 +28,8 @@ solve_cleared-requires-clause-positive g c =
 
 pub returns-in-Err-Wide : goal.returns-in-Err-Wide
 returns-in-Err-Wide g c =
-    let refused : answer is_placed_owed (clear_ops c.args.a.now) (cleared_of c.args.a.now) ≡ Err (record { row = c.in-Err-Wide.row; column = c.in-Err-Wide.column; op = c.in-Err-Wide.op }) =
+    let refused : answer is_placed_owed (clear_ops c.args.a.now) (cleared_of c.args.a.now)
+    ≡ Err (record { row = c.in-Err-Wide.row; column = c.in-Err-Wide.column; op = c.in-Err-Wide.op }) =
     rw c.in-Err-Wide.field-0-is at c.in-Err-Wide.ensures.wide in
     let cause = Overflow (Clear c.in-Err-Wide.row c.in-Err-Wide.column c.in-Err-Wide.op) in
     let ended : IfOk c.refused_text.result (λ r. r.0 ≡ ending_with (Some no_visit) cause) = rw c.in-Err-Wide.field-0-is at c.refused_text.ensures.ended in

@@ -19,4 +19,5 @@ returns-in-Ok g c =
 
 pub returns-in-Err : goal.returns-in-Err
 returns-in-Err g c =
-    ends_by_follows (Refuses (IsFaultDue c.args.bytes.now)) (IsBytesAnswer (IsSolved c.args.trace c.args.limits) c.args.bytes.now) _ (λ e text h. inl h) _ c.in-Err.ensures.refused
+    ends_by_follows (Refuses (IsFaultDue c.args.bytes.now)) (IsBytesAnswer (IsSolved c.args.trace c.args.limits) c.args.bytes.now) _ (λ e text h. inl h) _
+    c.in-Err.ensures.refused

@@ -16,5 +16,15 @@ returns c =
     let made : List ℕ = verdict_text (Separator c.args.w c.args.value c.in_ok-tree.tree) in
     let whole : Type 0 = IsWhole (Separator c.args.w c.args.value c.in_ok-tree.tree) in
     on_ok_follows ((new ≡ old ++ made) × whole) (AddsSeparation c.args.depth c.args.w c.args.value old new) c.write_verdict.result
-    (λ (h : (new ≡ old ++ made) × whole). (made, record { tree = c.in_ok-tree.tree; by_pairs = c.in_ok-tree.ensures.pairs; proved = c.in_ok-tree.ensures.proves; written = refl; whole = h.1 }, h.0))
+    (λ (h : (new ≡ old ++ made) × whole). (
+      made,
+      record {
+        tree = c.in_ok-tree.tree;
+        by_pairs = c.in_ok-tree.ensures.pairs;
+        proved = c.in_ok-tree.ensures.proves;
+        written = refl;
+        whole = h.1;
+      },
+      h.0,
+    ))
     (on_ok_both (new ≡ old ++ made) whole c.write_verdict.result c.write_verdict.ensures.ok c.write_verdict.ensures.whole)

@@ -9,15 +9,21 @@ use Rattle.exact_linear.proofs.pivot.clear_rows.Goals as goal
 use Rattle.exact_linear.proofs.pivot.clear_rows.Goals.{then-j-width, else-j-width}
 
 pub bounds-old-i : goal.bounds-old-i
-bounds-old-i c = omega (arith, cell_within c.loop-k.i c.loop-k.j c.args.width c.args.column c.args.rows c.loop-k.k c.loop-k.invariant.place (omega arith) c.requires.column)
+bounds-old-i c =
+    omega (arith, cell_within c.loop-k.i c.loop-k.j c.args.width c.args.column c.args.rows c.loop-k.k c.loop-k.invariant.place (omega arith) c.requires.column)
 
 factor_is : (c : goal.After-from_residual) → c.index-old-i.result ≡ entry_of c.args.old.now (c.loop-k.i * c.args.width + c.args.column)
 factor_is c =
     get_or_read_under c.args.old.now (c.loop-k.i * c.args.width + c.args.column) (length c.args.old.now) c.index-old-i.result (whole (pos 0)) c.index-old-i.is
-    (omega (arith, cell_within c.loop-k.i c.loop-k.j c.args.width c.args.column c.args.rows c.loop-k.k c.loop-k.invariant.place (omega arith) c.requires.column)) (omega arith)
+    (omega (
+      arith,
+      cell_within c.loop-k.i c.loop-k.j c.args.width c.args.column c.args.rows c.loop-k.k c.loop-k.invariant.place (omega arith) c.requires.column,
+    ))
+    (omega arith)
 
 pivot_is : (c : goal.After-from_residual) → c.index-pivot_row-j.result ≡ entry_of c.args.pivot_row.now c.loop-k.j
-pivot_is c = get_or_read_under c.args.pivot_row.now c.loop-k.j (length c.args.pivot_row.now) c.index-pivot_row-j.result (whole (pos 0)) c.index-pivot_row-j.is (omega (arith, c.loop-k.invariant.column)) (omega arith)
+pivot_is c = get_or_read_under c.args.pivot_row.now c.loop-k.j (length c.args.pivot_row.now) c.index-pivot_row-j.result (whole (pos 0)) c.index-pivot_row-j.is
+    (omega (arith, c.loop-k.invariant.column)) (omega arith)
 
 pub returns-in_err-into-clause-refused : goal.returns-in_err-into-clause-refused
 returns-in_err-into-clause-refused c = let f = factor_is c in let y = pivot_is c in grind (arith, rest_refused)
@@ -25,24 +31,39 @@ returns-in_err-into-clause-refused c = let f = factor_is c in let y = pivot_is c
 factor_ok : (c : goal.Joined-j-width) → c.index-old-i.result ≡ entry_of c.args.old.now (c.loop-k.i * c.args.width + c.args.column)
 factor_ok c =
     get_or_read_under c.args.old.now (c.loop-k.i * c.args.width + c.args.column) (length c.args.old.now) c.index-old-i.result (whole (pos 0)) c.index-old-i.is
-    (omega (arith, cell_within c.loop-k.i c.loop-k.j c.args.width c.args.column c.args.rows c.loop-k.k c.loop-k.invariant.place (omega arith) c.requires.column)) (omega arith)
+    (omega (
+      arith,
+      cell_within c.loop-k.i c.loop-k.j c.args.width c.args.column c.args.rows c.loop-k.k c.loop-k.invariant.place (omega arith) c.requires.column,
+    ))
+    (omega arith)
 
 pivot_ok : (c : goal.Joined-j-width) → c.index-pivot_row-j.result ≡ entry_of c.args.pivot_row.now c.loop-k.j
-pivot_ok c = get_or_read_under c.args.pivot_row.now c.loop-k.j (length c.args.pivot_row.now) c.index-pivot_row-j.result (whole (pos 0)) c.index-pivot_row-j.is (omega (arith, c.loop-k.invariant.column)) (omega arith)
+pivot_ok c = get_or_read_under c.args.pivot_row.now c.loop-k.j (length c.args.pivot_row.now) c.index-pivot_row-j.result (whole (pos 0)) c.index-pivot_row-j.is
+    (omega (arith, c.loop-k.invariant.column)) (omega arith)
 
 made_ok : (c : goal.Joined-j-width)
-    → answer entry_is_owed (cell_ops c.args.row c.loop-k.i c.loop-k.j c.index-old-k.result c.index-old-i.result c.index-pivot_row-j.result) (new_cell c.args.row c.loop-k.i c.index-old-k.result c.index-old-i.result c.index-pivot_row-j.result) ≡ Ok c.in_ok-into.field-0
+    → answer entry_is_owed (cell_ops c.args.row c.loop-k.i c.loop-k.j c.index-old-k.result c.index-old-i.result c.index-pivot_row-j.result)
+    (new_cell c.args.row c.loop-k.i c.index-old-k.result c.index-old-i.result c.index-pivot_row-j.result) ≡ Ok c.in_ok-into.field-0
 made_ok c = sym c.new_entry.ensures ∙ c.in_ok-into.was
 
 same_ok : (c : goal.Joined-j-width)
     → answer entry_is_owed (rest_ops c.args.row c.args.column c.args.width c.args.pivot_row.now c.args.old.now c.args.old.now 0 0) (tt {0})
-    ≡ answer entry_is_owed (rest_ops c.args.row c.args.column c.args.width c.args.pivot_row.now c.args.old.now (drop (c.loop-k.k + 1) c.args.old.now) (next_row c.args.width c.loop-k.i c.loop-k.j) (next_column c.args.width c.loop-k.i c.loop-k.j)) (tt {0})
-same_ok c = c.loop-k.invariant.same ∙ rest_done c.args.row c.args.column c.args.width c.loop-k.i c.loop-k.j c.loop-k.k c.args.pivot_row.now c.args.old.now c.index-old-k.result c.index-old-i.result c.index-pivot_row-j.result c.in_ok-into.field-0 c.loop-k-test.true c.index-old-k.is (factor_ok c) (pivot_ok c) (made_ok c)
+    ≡ answer entry_is_owed
+    (rest_ops c.args.row c.args.column c.args.width c.args.pivot_row.now c.args.old.now (drop (c.loop-k.k + 1) c.args.old.now)
+    (next_row c.args.width c.loop-k.i c.loop-k.j) (next_column c.args.width c.loop-k.i c.loop-k.j)) (tt {0})
+same_ok c = c.loop-k.invariant.same
+    ∙ rest_done c.args.row c.args.column c.args.width c.loop-k.i c.loop-k.j c.loop-k.k c.args.pivot_row.now c.args.old.now c.index-old-k.result
+    c.index-old-i.result c.index-pivot_row-j.result c.in_ok-into.field-0 c.loop-k-test.true c.index-old-k.is (factor_ok c) (pivot_ok c) (made_ok c)
 
 cells_ok : (c : goal.Joined-j-width)
-    → take (c.loop-k.k + 1) (set c.loop-k.into c.loop-k.k c.in_ok-into.field-0) ++ rest_cells c.args.row c.args.column c.args.width c.args.pivot_row.now c.args.old.now (drop (c.loop-k.k + 1) c.args.old.now) (next_row c.args.width c.loop-k.i c.loop-k.j) (next_column c.args.width c.loop-k.i c.loop-k.j)
+    → take (c.loop-k.k + 1) (set c.loop-k.into c.loop-k.k c.in_ok-into.field-0)
+    ++ rest_cells c.args.row c.args.column c.args.width c.args.pivot_row.now c.args.old.now (drop (c.loop-k.k + 1) c.args.old.now)
+    (next_row c.args.width c.loop-k.i c.loop-k.j) (next_column c.args.width c.loop-k.i c.loop-k.j)
     ≡ rest_cells c.args.row c.args.column c.args.width c.args.pivot_row.now c.args.old.now c.args.old.now 0 0
-cells_ok c = sym (rest_made c.args.row c.args.column c.args.width c.loop-k.i c.loop-k.j c.loop-k.k c.args.pivot_row.now c.args.old.now c.loop-k.into c.index-old-k.result c.index-old-i.result c.index-pivot_row-j.result c.in_ok-into.field-0 c.loop-k-test.true c.loop-k.invariant.size c.index-old-k.is (factor_ok c) (pivot_ok c) (made_ok c)) ∙ c.loop-k.invariant.made
+cells_ok c = sym
+    (rest_made c.args.row c.args.column c.args.width c.loop-k.i c.loop-k.j c.loop-k.k c.args.pivot_row.now c.args.old.now c.loop-k.into c.index-old-k.result
+    c.index-old-i.result c.index-pivot_row-j.result c.in_ok-into.field-0 c.loop-k-test.true c.loop-k.invariant.size c.index-old-k.is (factor_ok c)
+    (pivot_ok c) (made_ok c)) ∙ c.loop-k.invariant.made
 
 pub loop-k-preserved : goal.loop-k-preserved
 loop-k-preserved c = elim c.if-j-width.branch [

@@ -9,6 +9,8 @@ invariant-loop-k l = record {
   place : l.k ≡ l.i * l.width + l.j;
   column : l.j < l.width;
   size : length l.into ≡ length l.old;
-  same : answer entry_is_owed (rest_ops l.row l.column l.width l.pivot_row l.old l.old 0 0) (tt {0}) ≡ answer entry_is_owed (rest_ops l.row l.column l.width l.pivot_row l.old (drop l.k l.old) l.i l.j) (tt {0});
-  made : take l.k l.into ++ rest_cells l.row l.column l.width l.pivot_row l.old (drop l.k l.old) l.i l.j ≡ rest_cells l.row l.column l.width l.pivot_row l.old l.old 0 0;
+  same : answer entry_is_owed (rest_ops l.row l.column l.width l.pivot_row l.old l.old 0 0) (tt {0})
+      ≡ answer entry_is_owed (rest_ops l.row l.column l.width l.pivot_row l.old (drop l.k l.old) l.i l.j) (tt {0});
+  made : take l.k l.into ++ rest_cells l.row l.column l.width l.pivot_row l.old (drop l.k l.old) l.i l.j
+      ≡ rest_cells l.row l.column l.width l.pivot_row l.old l.old 0 0;
 }

@@ -16,5 +16,7 @@ loop-row-preserved c =
 pub from_lower-requires-clause-lower : goal.from_lower-requires-clause-lower
 from_lower-requires-clause-lower c =
     let size = ap length c.as_slice-coordinates.ensures.value in
-    let row : c.loop-row.row ≡ c.len.result = (let a = c.loop-row-test.false in let b = c.loop-row.auto.row-end in let d = c.len.ensures.value in omega arith) in
-    square_lower c.args.x.now c.len.result c.deref.result.now c.len.ensures.vector (c.deref.ensures.value ∙ c.loop-row.invariant ∙ ap (λ (n : ℕ). square_rows c.args.x.now n) row)
+    let row : c.loop-row.row ≡ c.len.result =
+    (let a = c.loop-row-test.false in let b = c.loop-row.auto.row-end in let d = c.len.ensures.value in omega arith) in
+    square_lower c.args.x.now c.len.result c.deref.result.now c.len.ensures.vector (c.deref.ensures.value ∙ c.loop-row.invariant
+    ∙ ap (λ (n : ℕ). square_rows c.args.x.now n) row)

@@ -13,7 +13,9 @@ pub returns-then-column-from-clause-value : goal.returns-then-column-from-clause
 returns-then-column-from-clause-value c =
     let same : to_z w128 (of_z w128 c.get.result) ≡ c.get.result = search (rules, to_z-of_z) in
     let row : c.loop-before.first ≡ triangle (c.loop-before.before + 1 - 1) = c.loop-before.invariant.first ∙ ap triangle (omega arith) in
-    same ∙ c.get.ensures.value ∙ lower_at c.args.matrix.now (c.loop-before.before + 1 - 1) _ c.loop-before.first c.args.k row c.loop-before.invariant.within (omega arith) (omega (arith, c.if-column-from.true, c.from.ensures))
+    same ∙ c.get.ensures.value
+    ∙ lower_at c.args.matrix.now (c.loop-before.before + 1 - 1) _ c.loop-before.first c.args.k row c.loop-before.invariant.within (omega arith)
+    (omega (arith, c.if-column-from.true, c.from.ensures))
 
 pub loop-before-preserved : goal.loop-before-preserved
 loop-before-preserved c = let over = c.if-column-from.false in record {

@@ -1,6 +1,6 @@
 use Rattle.std.proofs.Common.{◌≡◌, ◌∙◌, sym, ap, List, ℕ, ◌+◌, ◌++◌, [], ◌∷◌, arith}
 use Rattle.std.specs.List.{range_with_len}
-use Rattle.exact_linear.proofs.Fill.{range_more}
+use Rattle.exact_forms.proofs.Lists.{range_more}
 use Rattle.exact_linear.proofs.tableau.numbers_below.Goals as goal
 
 pub loop-number-preserved : goal.loop-number-preserved

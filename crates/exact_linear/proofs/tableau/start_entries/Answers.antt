@@ -11,4 +11,5 @@ loop-k-preserved c =
     c.loop-k.invariant c.start_entry.ensures c.in_ok-push.ensures.items
 
 pub returns : goal.returns
-returns c = start_cells_all c.args.rows c.args.width c.args.columns.now c.loop-k.k c.loop-k.entries.items c.loop-k.invariant (let a = c.loop-k-test.false in let b = c.loop-k.auto.k-end in omega arith)
+returns c = start_cells_all c.args.rows c.args.width c.args.columns.now c.loop-k.k c.loop-k.entries.items c.loop-k.invariant (let a = c.loop-k-test.false in
+    let b = c.loop-k.auto.k-end in omega arith)

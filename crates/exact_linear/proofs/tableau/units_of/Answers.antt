@@ -5,4 +5,5 @@ use Rattle.exact_linear.proofs.StartTable.{half}
 use Rattle.exact_linear.proofs.tableau.units_of.Goals as goal
 
 pub returns-clause-value : goal.returns-clause-value
-returns-clause-value c = ap₂ (λ (a : ℕ) (b : ℕ). a * (b + 1) / 2) c.from.ensures c.from-2.ensures ∙ half (c.args.n * (c.args.n + 1)) (triangle c.args.n) (twice_triangle c.args.n)
+returns-clause-value c = ap₂ (λ (a : ℕ) (b : ℕ). a * (b + 1) / 2) c.from.ensures c.from-2.ensures
+    ∙ half (c.args.n * (c.args.n + 1)) (triangle c.args.n) (twice_triangle c.args.n)

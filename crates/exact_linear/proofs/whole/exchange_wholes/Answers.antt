@@ -1,10 +1,12 @@
 use Rattle.std.proofs.Common.{◌≡◌, ◌∙◌, ◌++◌, ◌+◌, ◌*◌, ◌<◌, ◌^◌, sym, arith, ℕ, ℤ, List, nat_abs, take, drop, set, to_z-of_z}
 use Rattle.std.proofs.lemmas.List.{length-set, length-map}
+use Rattle.symmetric_matrix.proofs.Narrow.{read_64}
+use Rattle.commutative_ring.proofs.SmallCases.{positive_abs}
 use Rattle.exact_forms.specs.Rational.{Rational, ratio}
 use Rattle.exact_linear.specs.Whole.{fractions_over, whole_at, turned}
 use Rattle.exact_linear.specs.Exchange.{new_cell, rest_cells, next_row, next_column, pivot_row}
 use Rattle.exact_linear.proofs.Rows.{cell_within, next_inside, next_after, last_column}
-use Rattle.exact_linear.proofs.WholeEntries.{row_below, all_written, written, written_small, small_back, at_least_one_positive}
+use Rattle.exact_linear.proofs.WholeEntries.{row_below, all_written, written, written_small}
 use Rattle.exact_linear.proofs.whole.exchange_wholes.Goals as goal
 use Rattle.exact_linear.proofs.whole.exchange_wholes.Goals.{then-j-width, else-j-width}
 
@@ -29,12 +31,12 @@ entry_is c =
     let old = c.args.old.now in
     let P : ℤ = whole_at old (c.args.row * c.args.width + c.args.column) in
     let pivot : c.new-scales.result.pivot ≡ P =
-    rw (small_back P (c.requires.small.small (c.args.row * c.args.width + c.args.column))) at c.new-scales.ensures.pivot in
+    rw (read_64 P (c.requires.small.small (c.args.row * c.args.width + c.args.column))) at c.new-scales.ensures.pivot in
     let den : c.new-scales.result.den ≡ c.args.den = rw (to_z-of_z c.ranges.den) at c.new-scales.ensures.den in
     rw (
-      small_back (whole_at old c.loop-k.k) (c.requires.small.small c.loop-k.k),
-      small_back (whole_at old (c.loop-k.i * c.args.width + c.args.column)) (c.requires.small.small (c.loop-k.i * c.args.width + c.args.column)),
-      small_back (whole_at old (c.args.row * c.args.width + c.loop-k.j)) (c.requires.small.small (c.args.row * c.args.width + c.loop-k.j)),
+      read_64 (whole_at old c.loop-k.k) (c.requires.small.small c.loop-k.k),
+      read_64 (whole_at old (c.loop-k.i * c.args.width + c.args.column)) (c.requires.small.small (c.loop-k.i * c.args.width + c.args.column)),
+      read_64 (whole_at old (c.args.row * c.args.width + c.loop-k.j)) (c.requires.small.small (c.args.row * c.args.width + c.loop-k.j)),
       pivot,
       den,
     ) at c.in-Some.ensures.value
@@ -49,7 +51,7 @@ made_ok : (c : goal.Joined-j-width)
 made_ok c =
     sym (written c.args.row c.args.column c.args.width c.args.rows (nat_abs c.args.den) c.loop-k.i c.loop-k.j c.loop-k.k c.args.old.now c.loop-k.into
     c.in-Some.entry
-    (record { positive = at_least_one_positive c.args.den c.requires.den; small = c.requires.den_small }) c.requires.small c.requires.pivot
+    (record { positive = positive_abs c.args.den c.requires.den; small = c.requires.den_small }) c.requires.small c.requires.pivot
     c.requires.rows c.requires.row c.loop-k.invariant.column c.loop-k-test.true c.loop-k.invariant.size (entry_is c))
     ∙ (rw (to_z-of_z c.ranges.den) at c.loop-k.invariant.made)
 
@@ -61,7 +63,7 @@ pub loop-k-preserved : goal.loop-k-preserved
 loop-k-preserved c = elim c.if-j-width.branch [
   | then-j-width w ↦
       let next = next_inside c.args.width c.loop-k.i c.loop-k.j w.if-j-width.true in
-      rw (w.i-is, w.j-is, to_z-of_z c.ranges.den, small_back c.in-Some.entry c.in-Some.ensures.small) record {
+      rw (w.i-is, w.j-is, to_z-of_z c.ranges.den, read_64 c.in-Some.entry c.in-Some.ensures.small) record {
         place = omega (arith, c.loop-k.invariant.place);
         column = w.if-j-width.true;
         size = length-set c.loop-k.into c.loop-k.k c.in-Some.entry ∙ c.loop-k.invariant.size;
@@ -70,7 +72,7 @@ loop-k-preserved c = elim c.if-j-width.branch [
       }
   | else-j-width w ↦
       let next = next_after c.args.width c.loop-k.i c.loop-k.j w.if-j-width.false in
-      rw (w.i-is, w.j-is, to_z-of_z c.ranges.den, small_back c.in-Some.entry c.in-Some.ensures.small) record {
+      rw (w.i-is, w.j-is, to_z-of_z c.ranges.den, read_64 c.in-Some.entry c.in-Some.ensures.small) record {
         place = last_column c.loop-k.k c.loop-k.i c.loop-k.j c.args.width c.loop-k.invariant.place c.loop-k.invariant.column w.if-j-width.false;
         column = omega (arith, c.requires.column);
         size = length-set c.loop-k.into c.loop-k.k c.in-Some.entry ∙ c.loop-k.invariant.size;

@@ -15,7 +15,8 @@ returns-then-contains c =
     c.at_weight.ensures
     ∙ ap (λ (r : Result Rational IntOp). tagged (Weight c.args.vector) r) c.add.ensures
     ∙ raised_from c.args.tableau.now c.args.vectors c.args.firsts.now c.args.vector c.at_target-own.result c.at_target.result
-    (raised_yes c.args.tableau.now c.args.vectors c.args.firsts.now c.args.vector c.top_of-top.result (c.rows.result + c.args.vector) c.top_of-top.ensures.value column (sym c.is_basic.ensures ∙ c.if-is_basic.true) (sym c.contains.ensures ∙ c.if-contains.true))
+    (raised_yes c.args.tableau.now c.args.vectors c.args.firsts.now c.args.vector c.top_of-top.result (c.rows.result + c.args.vector) c.top_of-top.ensures.value
+    column (sym c.is_basic.ensures ∙ c.if-is_basic.true) (sym c.contains.ensures ∙ c.if-contains.true))
     (target_at c.args.tableau.now c.args.vectors (c.rows.result + c.args.vector) _ c.at_target-own.result c.at_target-own.ensures column)
     (target_at c.args.tableau.now c.args.vectors c.top_of-top.result _ c.at_target.result c.at_target.ensures c.top_of-top.ensures.value)
 
@@ -24,7 +25,10 @@ returns-else-is_basic c =
     let column : c.rows.result + c.args.vector ≡ rows_of c.args.tableau.now + c.args.vector = (let a = c.rows.ensures.value in omega arith) in
     plain_from c.args.tableau.now c.args.vectors c.args.firsts.now c.args.vector c.at_target-own.result
     (elim c.else-is_basic.branch as (λ _. is_raised c.args.tableau.now c.args.vectors c.args.firsts.now c.args.vector ≡ false) [
-      | else-is_basic-via-then-is_basic+else-contains w ↦ raised_not_first c.args.tableau.now c.args.vectors c.args.firsts.now c.args.vector c.top_of-top.result (c.rows.result + c.args.vector) c.top_of-top.ensures.value column (sym c.is_basic.ensures ∙ w.if-is_basic.true) (sym w.contains.ensures ∙ w.if-contains.false)
-      | else-is_basic-via-else-is_basic w ↦ raised_not_basic c.args.tableau.now c.args.vectors c.args.firsts.now c.args.vector c.top_of-top.result c.top_of-top.ensures.value (sym c.is_basic.ensures ∙ w.if-is_basic.false)
+      | else-is_basic-via-then-is_basic+else-contains w ↦ raised_not_first c.args.tableau.now c.args.vectors c.args.firsts.now c.args.vector c.top_of-top.result
+          (c.rows.result + c.args.vector) c.top_of-top.ensures.value column (sym c.is_basic.ensures ∙ w.if-is_basic.true) (sym w.contains.ensures
+          ∙ w.if-contains.false)
+      | else-is_basic-via-else-is_basic w ↦ raised_not_basic c.args.tableau.now c.args.vectors c.args.firsts.now c.args.vector c.top_of-top.result
+          c.top_of-top.ensures.value (sym c.is_basic.ensures ∙ w.if-is_basic.false)
     ])
     (target_at c.args.tableau.now c.args.vectors (c.rows.result + c.args.vector) _ c.at_target-own.result c.at_target-own.ensures column)

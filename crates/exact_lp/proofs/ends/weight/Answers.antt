@@ -10,8 +10,10 @@ use Rattle.exact_lp.proofs.ends.weight.Goals as goal
 
 pub returns-in_err-coefficient : goal.returns-in_err-coefficient
 returns-in_err-coefficient c =
-    let whole : answer place_is_owed (coefficient_ops c.args.tableau.now c.args.vectors c.args.firsts.now c.args.d c.args.vector) (coefficient c.args.tableau.now c.args.vectors c.args.firsts.now c.args.vector /ℚ c.args.d) ≡ Err c.in_err-coefficient.field-0.0 =
-    weight_refused c.args.tableau.now c.args.vectors c.args.firsts.now c.args.d c.args.vector c.in_err-coefficient.field-0.0 (sym c.coefficient.ensures ∙ c.in_err-coefficient.was) in
+    let whole : answer place_is_owed (coefficient_ops c.args.tableau.now c.args.vectors c.args.firsts.now c.args.d c.args.vector)
+    (coefficient c.args.tableau.now c.args.vectors c.args.firsts.now c.args.vector /ℚ c.args.d) ≡ Err c.in_err-coefficient.field-0.0 =
+    weight_refused c.args.tableau.now c.args.vectors c.args.firsts.now c.args.d c.args.vector c.in_err-coefficient.field-0.0 (sym c.coefficient.ensures
+    ∙ c.in_err-coefficient.was) in
     grind arith
 
 pub returns : goal.returns
@@ -19,4 +21,5 @@ returns c =
     c.at_weight.ensures
     ∙ ap (λ (r : Result Rational IntOp). tagged (Weight c.args.vector) r) c.div.ensures
     ∙ weight_tagged c.args.vector (div_ops c.in_ok-coefficient.coefficient c.args.d) (c.in_ok-coefficient.coefficient /ℚ c.args.d)
-    ∙ weight_then c.args.tableau.now c.args.vectors c.args.firsts.now c.args.d c.args.vector c.in_ok-coefficient.coefficient (sym c.coefficient.ensures ∙ c.in_ok-coefficient.was)
+    ∙ weight_then c.args.tableau.now c.args.vectors c.args.firsts.now c.args.d c.args.vector c.in_ok-coefficient.coefficient (sym c.coefficient.ensures
+    ∙ c.in_ok-coefficient.was)

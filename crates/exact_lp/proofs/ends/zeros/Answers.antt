@@ -11,13 +11,21 @@ loop-vector-init c = zeros_start c.args.tableau.now c.args.vectors c.new-zeros.r
 
 pub loop-vector-preserved : goal.loop-vector-preserved
 loop-vector-preserved c =
-    let column : rows_of c.args.tableau.now + c.loop-vector.vector ≡ c.rows-units.result + c.loop-vector.vector = (let a = c.rows-units.ensures.value in omega arith) in
+    let column : rows_of c.args.tableau.now + c.loop-vector.vector ≡ c.rows-units.result + c.loop-vector.vector =
+    (let a = c.rows-units.ensures.value in omega arith) in
     elim c.if-is_basic.branch [
-      | then-is_basic+in_ok-push w ↦ rw w.zeros-is (gather_take (zeros_of c.args.tableau.now c.args.vectors) c.loop-vector.zeros w.push.new.self (is_basic_vector c.args.tableau.now) c.loop-vector.vector (0 + c.args.vectors) c.loop-vector.invariant
-          (let a = c.loop-vector-test.true in omega arith) (ap (λ (k : ℕ). is_basic c.args.tableau.now k) column ∙ sym c.is_basic.ensures ∙ w.if-is_basic.true) w.in_ok-push.ensures.ok)
-      | else-is_basic w ↦ rw w.zeros-is (gather_skip (zeros_of c.args.tableau.now c.args.vectors) c.loop-vector.zeros (is_basic_vector c.args.tableau.now) c.loop-vector.vector (0 + c.args.vectors) c.loop-vector.invariant
-          (let a = c.loop-vector-test.true in omega arith) (ap (λ (k : ℕ). is_basic c.args.tableau.now k) column ∙ sym c.is_basic.ensures ∙ w.if-is_basic.false))
+      | then-is_basic+in_ok-push w ↦ rw w.zeros-is
+          (gather_take (zeros_of c.args.tableau.now c.args.vectors) c.loop-vector.zeros w.push.new.self (is_basic_vector c.args.tableau.now)
+          c.loop-vector.vector (0 + c.args.vectors) c.loop-vector.invariant
+          (let a = c.loop-vector-test.true in omega arith) (ap (λ (k : ℕ). is_basic c.args.tableau.now k) column ∙ sym c.is_basic.ensures
+          ∙ w.if-is_basic.true) w.in_ok-push.ensures.ok)
+      | else-is_basic w ↦ rw w.zeros-is
+          (gather_skip (zeros_of c.args.tableau.now c.args.vectors) c.loop-vector.zeros (is_basic_vector c.args.tableau.now) c.loop-vector.vector
+          (0 + c.args.vectors) c.loop-vector.invariant
+          (let a = c.loop-vector-test.true in omega arith) (ap (λ (k : ℕ). is_basic c.args.tableau.now k) column ∙ sym c.is_basic.ensures
+          ∙ w.if-is_basic.false))
     ]
 
 pub returns : goal.returns
-returns c = gather_done (zeros_of c.args.tableau.now c.args.vectors) c.loop-vector.zeros (is_basic_vector c.args.tableau.now) c.loop-vector.vector (0 + c.args.vectors) c.loop-vector.invariant (let a = c.loop-vector-test.false in omega arith)
+returns c = gather_done (zeros_of c.args.tableau.now c.args.vectors) c.loop-vector.zeros (is_basic_vector c.args.tableau.now) c.loop-vector.vector
+    (0 + c.args.vectors) c.loop-vector.invariant (let a = c.loop-vector-test.false in omega arith)

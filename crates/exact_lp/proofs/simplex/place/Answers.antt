@@ -10,7 +10,8 @@ use Rattle.exact_lp.proofs.simplex.place.Goals as goal
 use Rattle.exact_lp.proofs.Starting.{start_is, divisor, placed_as}
 
 pub place_on-requires-clause-width : goal.place_on-requires-clause-width
-place_on-requires-clause-width c = let S = start_is c.args.vectors.now c.args.s.now c.in-Ok.tableau c.n-n.ensures.matrix.positive c.in-Ok.ensures in let w = S.width in let v = c.len-vectors_len.ensures.value in omega arith
+place_on-requires-clause-width c = let S = start_is c.args.vectors.now c.args.s.now c.in-Ok.tableau c.n-n.ensures.matrix.positive c.in-Ok.ensures in let w =
+    S.width in let v = c.len-vectors_len.ensures.value in omega arith
 
 pub place_on-requires-clause-row : goal.place_on-requires-clause-row
 place_on-requires-clause-row c = (start_is c.args.vectors.now c.args.s.now c.in-Ok.tableau c.n-n.ensures.matrix.positive c.in-Ok.ensures).row
@@ -26,27 +27,33 @@ place_on-requires-clause-divisor c = λ e. divisor c.args.d c.requires.positive 
 
 pub returns-in-Ok-clause-answer : goal.returns-in-Ok-clause-answer
 returns-in-Ok-clause-answer c =
-    placed_as c.in-Ok.tableau _ c.len-vectors_len.result _ c.whole.result _ c.args.budget c.place_on.result c.in-Ok.ensures c.len-vectors_len.ensures.value (c.whole.ensures ∙ whole_is c.args.d (search rules)) c.place_on.ensures
+    placed_as c.in-Ok.tableau _ c.len-vectors_len.result _ c.whole.result _ c.args.budget c.place_on.result c.in-Ok.ensures c.len-vectors_len.ensures.value
+    (c.whole.ensures ∙ whole_is c.args.d (search rules)) c.place_on.ensures
 
 pub returns-in-Ok-clause-rule : goal.returns-in-Ok-clause-rule
 returns-in-Ok-clause-rule c =
     ruled c.args.vectors.now c.args.s.now c.args.d c.n-n.ensures.matrix.positive c.requires.one_length c.requires.spanning c.args.budget c.place_on.result
-    (placed_as c.in-Ok.tableau _ c.len-vectors_len.result _ c.whole.result _ c.args.budget c.place_on.result c.in-Ok.ensures c.len-vectors_len.ensures.value (c.whole.ensures ∙ whole_is c.args.d (search rules)) c.place_on.ensures)
+    (placed_as c.in-Ok.tableau _ c.len-vectors_len.result _ c.whole.result _ c.args.budget c.place_on.result c.in-Ok.ensures c.len-vectors_len.ensures.value
+    (c.whole.ensures ∙ whole_is c.args.d (search rules)) c.place_on.ensures)
 
 pub returns-in-Ok-clause-sound : goal.returns-in-Ok-clause-sound
 returns-in-Ok-clause-sound c =
-    sound c.args.vectors.now c.args.s.now c.args.d c.n-n.ensures.matrix.positive c.requires.one_length c.requires.spanning c.args.budget c.place_on.result c.requires.positive
-    (placed_as c.in-Ok.tableau _ c.len-vectors_len.result _ c.whole.result _ c.args.budget c.place_on.result c.in-Ok.ensures c.len-vectors_len.ensures.value (c.whole.ensures ∙ whole_is c.args.d (search rules)) c.place_on.ensures)
+    sound c.args.vectors.now c.args.s.now c.args.d c.n-n.ensures.matrix.positive c.requires.one_length c.requires.spanning c.args.budget c.place_on.result
+    c.requires.positive
+    (placed_as c.in-Ok.tableau _ c.len-vectors_len.result _ c.whole.result _ c.args.budget c.place_on.result c.in-Ok.ensures c.len-vectors_len.ensures.value
+    (c.whole.ensures ∙ whole_is c.args.d (search rules)) c.place_on.ensures)
 
 pub place_on-requires-clause-leaves : goal.place_on-requires-clause-leaves
 place_on-requires-clause-leaves c =
-    leaving_rows_as c.in-Ok.tableau _ c.len-vectors_len.result _ c.whole.result _ c.in-Ok.ensures c.len-vectors_len.ensures.value (c.whole.ensures ∙ whole_is c.args.d (search rules))
+    leaving_rows_as c.in-Ok.tableau _ c.len-vectors_len.result _ c.whole.result _ c.in-Ok.ensures c.len-vectors_len.ensures.value (c.whole.ensures
+    ∙ whole_is c.args.d (search rules))
     (leaving_rows c.args.vectors.now c.args.s.now c.args.d c.n-n.ensures.matrix.positive c.requires.one_length c.requires.spanning)
 
 pub returns-in-Ok-clause-due : goal.returns-in-Ok-clause-due
 returns-in-Ok-clause-due c = λ a A.
     one_answer _ c.args.budget c.place_on.result a
-    (placed_as c.in-Ok.tableau _ c.len-vectors_len.result _ c.whole.result _ c.args.budget c.place_on.result c.in-Ok.ensures c.len-vectors_len.ensures.value (c.whole.ensures ∙ whole_is c.args.d (search rules)) c.place_on.ensures) A
+    (placed_as c.in-Ok.tableau _ c.len-vectors_len.result _ c.whole.result _ c.args.budget c.place_on.result c.in-Ok.ensures c.len-vectors_len.ensures.value
+    (c.whole.ensures ∙ whole_is c.args.d (search rules)) c.place_on.ensures) A
 
 pub returns-in-Err-clause-due : goal.returns-in-Err-clause-due
 returns-in-Err-clause-due c = λ a A. inr (inl refl)

@@ -7,5 +7,6 @@ use Rattle.exact_lp.proofs.squares.start.Goals as goal
 
 pub over_units-requires-clause-sizes : goal.over_units-requires-clause-sizes
 over_units-requires-clause-sizes c =
-    subst (λ (xs : List Symmetric). (k : ℕ) → k < length xs → (slice_index_or xs k no_matrix).size ≡ c.n.result) (sym (c.deref.ensures.value ∙ c.in_ok-columns.ensures))
+    subst (λ (xs : List Symmetric). (k : ℕ) → k < length xs
+    → (slice_index_or xs k no_matrix).size ≡ c.n.result) (sym (c.deref.ensures.value ∙ c.in_ok-columns.ensures))
     (λ k l. sizes c.args.vectors.now c.args.s.now c.requires k l ∙ sym c.n.ensures.value)

@@ -8,6 +8,7 @@ use Rattle.extreme_ray.proofs.clearing.numerators.Given as goal
 abbrev pub invariant-loop-k : goal.invariant-loop-k
 invariant-loop-k l = record {
   size : length l.into ≡ length l.coefficients;
-  same : answer is_owed (ray_numerator_ops (nat_abs l.common) l.coefficients) (tt {0}) ≡ answer is_owed (ray_numerator_ops (nat_abs l.common) (drop l.k l.coefficients)) (tt {0});
+  same : answer is_owed (ray_numerator_ops (nat_abs l.common) l.coefficients) (tt {0})
+      ≡ answer is_owed (ray_numerator_ops (nat_abs l.common) (drop l.k l.coefficients)) (tt {0});
   made : take l.k l.into ++ numerators (nat_abs l.common) (drop l.k l.coefficients) ≡ numerators (nat_abs l.common) l.coefficients;
 }

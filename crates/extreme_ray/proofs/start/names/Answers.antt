@@ -7,11 +7,16 @@ use Rattle.extreme_ray.proofs.start.names.Goals.{then-is_listed+in_ok-push, else
 pub loop-name-preserved : goal.loop-name-preserved
 loop-name-preserved c =
     elim c.if-is_listed.branch [
-      | then-is_listed+in_ok-push w ↦ rw w.names-is (gather_take (places_where (contains (c.args.leaving ∷ c.args.zeros.now)) 0 c.args.count) c.loop-name.names.items w.push.new.self.items (contains (c.args.leaving ∷ c.args.zeros.now)) c.loop-name.name (0 + c.args.count) c.loop-name.invariant
+      | then-is_listed+in_ok-push w ↦ rw w.names-is
+          (gather_take (places_where (contains (c.args.leaving ∷ c.args.zeros.now)) 0 c.args.count) c.loop-name.names.items w.push.new.self.items
+          (contains (c.args.leaving ∷ c.args.zeros.now)) c.loop-name.name (0 + c.args.count) c.loop-name.invariant
           (let a = c.loop-name-test.true in omega arith) (sym c.is_listed.ensures ∙ w.if-is_listed.true) w.in_ok-push.ensures.items)
-      | else-is_listed w ↦ rw w.names-is (gather_skip (places_where (contains (c.args.leaving ∷ c.args.zeros.now)) 0 c.args.count) c.loop-name.names.items (contains (c.args.leaving ∷ c.args.zeros.now)) c.loop-name.name (0 + c.args.count) c.loop-name.invariant
+      | else-is_listed w ↦ rw w.names-is
+          (gather_skip (places_where (contains (c.args.leaving ∷ c.args.zeros.now)) 0 c.args.count) c.loop-name.names.items
+          (contains (c.args.leaving ∷ c.args.zeros.now)) c.loop-name.name (0 + c.args.count) c.loop-name.invariant
           (let a = c.loop-name-test.true in omega arith) (sym c.is_listed.ensures ∙ w.if-is_listed.false))
     ]
 
 pub returns : goal.returns
-returns c = gather_done (places_where (contains (c.args.leaving ∷ c.args.zeros.now)) 0 c.args.count) c.loop-name.names.items (contains (c.args.leaving ∷ c.args.zeros.now)) c.loop-name.name (0 + c.args.count) c.loop-name.invariant (let a = c.loop-name-test.false in omega arith)
+returns c = gather_done (places_where (contains (c.args.leaving ∷ c.args.zeros.now)) 0 c.args.count) c.loop-name.names.items
+    (contains (c.args.leaving ∷ c.args.zeros.now)) c.loop-name.name (0 + c.args.count) c.loop-name.invariant (let a = c.loop-name-test.false in omega arith)

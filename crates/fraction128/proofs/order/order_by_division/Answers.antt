@@ -16,7 +16,8 @@ returns-then-rest-eq0 c =
       | then-rest-eq0-via-else-rest-eq0+then-other_rest-eq0 w ↦ inr w.if-other_rest-eq0.true
     ]
     in
-    c.cmp-then-rest-eq0.ensures ∙ at_end (l.a % l.b) l.b (l.c % l.d) l.d l.invariant.left l.invariant.right none ∙ same_whole l.a l.b l.c l.d c.if-whole-other_whole.false ∙ sym l.invariant.same
+    c.cmp-then-rest-eq0.ensures ∙ at_end (l.a % l.b) l.b (l.c % l.d) l.d l.invariant.left l.invariant.right none
+    ∙ same_whole l.a l.b l.c l.d c.if-whole-other_whole.false ∙ sym l.invariant.same
 
 pub loop-whole-preserved : goal.loop-whole-preserved
 loop-whole-preserved c =

@@ -9,4 +9,5 @@ returns-clause-rows c = IfOk-weaker c.over_units.result _ (λ t. rows_of t ≡ 2
 
 pub returns-clause-width : goal.returns-clause-width
 returns-clause-width c =
-    IfOk-weaker c.over_units.result _ (λ t. t.width ≡ 516) (λ t. width_over_units c.deref.result.now t (ap length c.deref.ensures.value ∙ c.in_ok-given.ensures.count)) c.over_units.ensures.table
+    IfOk-weaker c.over_units.result _ (λ t. t.width ≡ 516) (λ t. width_over_units c.deref.result.now t (ap length c.deref.ensures.value
+    ∙ c.in_ok-given.ensures.count)) c.over_units.ensures.table

@@ -15,7 +15,8 @@ returns-in-Ok-clause-ok c = IfOk-weaker c.matrix_in.result _ _ (λ a e. table-re
 
 pub returns-in-Ok-clause-fault : goal.returns-in-Ok-clause-fault
 unfolding MatrixFault
-returns-in-Ok-clause-fault c = λ kind line e. table-read c.args.bytes.now c.in-Ok.table c.in-Ok.ensures ∙ c.matrix_in.ensures.fault (record { kind = kind; line = line }) e
+returns-in-Ok-clause-fault c = λ kind line e. table-read c.args.bytes.now c.in-Ok.table c.in-Ok.ensures
+    ∙ c.matrix_in.ensures.fault (record { kind = kind; line = line }) e
 
 same_fault : (f g : TextFault) → ◌≡◌ {A = Result RatMatrix TextFail} (Err (Fault f)) (Err (Fault g)) → f ≡ g
 same_fault f g e = cc

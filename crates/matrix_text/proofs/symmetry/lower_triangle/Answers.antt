@@ -10,7 +10,8 @@ loop-row-init c = lower_none c.new-lower.result.items c.new-lower.ensures.items
 pub loop-row-preserved : goal.loop-row-preserved
 loop-row-preserved c =
     let len = length-entries c.args.table.now in
-    lower_step (table_entries c.args.table.now) c.loop-row.row c.loop-row.lower.items c.push_front.new.lower.items (omega (arith, len)) c.loop-row.invariant c.in_ok-push_front.ensures
+    lower_step (table_entries c.args.table.now) c.loop-row.row c.loop-row.lower.items c.push_front.new.lower.items (omega (arith, len)) c.loop-row.invariant
+    c.in_ok-push_front.ensures
 
 pub returns : goal.returns
 returns c =

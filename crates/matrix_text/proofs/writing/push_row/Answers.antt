@@ -6,7 +6,8 @@ use Rattle.matrix_text.proofs.Written.{row_word, row_end}
 use Rattle.matrix_text.proofs.writing.push_row.Goals as goal
 
 pub loop-column-init : goal.loop-column-init
-loop-column-init c = record { so_far = column_none (row_word (λ j. rational_entry c.args.a.now c.args.row j)) c.args.into.now.items; kept = Extends-same _ _ refl }
+loop-column-init c =
+    record { so_far = column_none (row_word (λ j. rational_entry c.args.a.now c.args.row j)) c.args.into.now.items; kept = Extends-same _ _ refl }
 
 pub loop-column-preserved : goal.loop-column-preserved
 loop-column-preserved c =
@@ -14,7 +15,8 @@ loop-column-preserved c =
     let column : c.loop-column.column + 1 - 1 ≡ c.loop-column.column = omega arith in
     let is = rw (row, column) at c.entry.ensures in
     record {
-      so_far = column_more (row_word (λ j. rational_entry c.args.a.now c.args.row j)) c.loop-column.column (fraction_word c.entry.result) c.args.into.now.items c.loop-column.into.items c.push_column.new.into.items (ap fraction_word is) c.loop-column.invariant.so_far c.in_ok-push_column.ensures.ok;
+      so_far = column_more (row_word (λ j. rational_entry c.args.a.now c.args.row j)) c.loop-column.column (fraction_word c.entry.result) c.args.into.now.items
+          c.loop-column.into.items c.push_column.new.into.items (ap fraction_word is) c.loop-column.invariant.so_far c.in_ok-push_column.ensures.ok;
       kept = Extends-then c.args.into.now.items c.loop-column.into.items c.push_column.new.into.items c.loop-column.invariant.kept c.push_column.ensures.kept;
     }
 
@@ -25,4 +27,5 @@ returns-clause-ok c =
     let auto = c.loop-column.auto.column-end in
     let all : c.loop-column.column ≡ c.args.a.now.size = omega (arith, n, test, auto) in
     row_end (λ j. rational_entry c.args.a.now c.args.row j) c.args.a.now.size c.args.into.now.items c.loop-column.into.items c.push.new.self.items
-    (c.loop-column.invariant.so_far ∙ ap (λ k. c.args.into.now.items ++ columns (row_word (λ j. rational_entry c.args.a.now c.args.row j)) k) all) c.in_ok-push.ensures.items
+    (c.loop-column.invariant.so_far ∙ ap (λ k. c.args.into.now.items ++ columns (row_word (λ j. rational_entry c.args.a.now c.args.row j)) k) all)
+    c.in_ok-push.ensures.items

@@ -15,7 +15,8 @@ use Rattle.perfect_walk.proofs.walking.visit.Goals as goal
 pub separated-requires-clause-narrow : goal.separated-requires-clause-narrow
 separated-requires-clause-narrow g c =
     let v : to_z w128 (of_z w128 c.in-Ok.value) ≡ c.in-Ok.value = search (rules, to_z-of_z) in
-    subst (λ (z : ℤ). FitsInt z) (sym v) (inner_fits c.args.now.now.matrix c.args.s.now c.in-Ok.value c.requires.held.size (sym c.inner.ensures.value ∙ c.in-Ok.is))
+    subst (λ (z : ℤ). FitsInt z) (sym v) (inner_fits c.args.now.now.matrix c.args.s.now c.in-Ok.value c.requires.held.size (sym c.inner.ensures.value
+    ∙ c.in-Ok.is))
 
 pub place_at-requires-clause-owes : goal.place_at-requires-clause-owes
 place_at-requires-clause-owes g c =

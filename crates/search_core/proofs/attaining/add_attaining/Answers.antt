@@ -17,7 +17,8 @@ loop-k-preserved g c =
       | then-gram-from+in_ok-add_key w ↦ rw w.found-is (
           let first : FitsSigned w128 c.gram.result = omega (arith, ints) in
           let second : FitsSigned w128 c.from.result = omega (arith, ints) in
-          let value : shown_gram (g.C.ConeRead.cone c.args.c.now) c.loop-k.k c.loop-k.k ≡ pos c.args.minimum = sym read ∙ same_when_read c.gram.result c.from.result first second w.if-gram-from.true ∙ c.from.ensures in
+          let value : shown_gram (g.C.ConeRead.cone c.args.c.now) c.loop-k.k c.loop-k.k ≡ pos c.args.minimum = sym read
+          ∙ same_when_read c.gram.result c.from.result first second w.if-gram-from.true ∙ c.from.ensures in
           one_added (g.C.ConeRead.cone c.args.c.now) c.loop-k.k (pos c.args.minimum) _ _ _ w.key_of.result c.loop-k.invariant (omega arith) value
           (subst (λ (i : ℕ). IsKeyOf (g.C.ConeRead.cone c.args.c.now) i w.key_of.result) here w.key_of.ensures.key) w.in_ok-add_key.ensures)
       | else-gram-from w ↦ rw w.found-is (none_more (g.C.ConeRead.cone c.args.c.now) c.loop-k.k (pos c.args.minimum) _ _ c.loop-k.invariant

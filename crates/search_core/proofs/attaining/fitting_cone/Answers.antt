@@ -18,4 +18,5 @@ loop-k-preserved c = way_more c.args.q.now.size (entry c.args.q.now) c.args.path
     (subst (λ (d : ℕ). IsNext c.loop-k.cone (nat_eq d 1) c.step_down.new.c) c.digit.ensures c.step_down.ensures)
 
 pub returns : goal.returns
-returns c = subst (λ (p : Path). IsConeAt c.args.q.now.size (entry c.args.q.now) p c.loop-k.cone) (take_all c.loop-k.k c.args.path.now (omega arith)) c.loop-k.invariant
+returns c = subst (λ (p : Path). IsConeAt c.args.q.now.size (entry c.args.q.now) p c.loop-k.cone) (take_all c.loop-k.k c.args.path.now (omega arith))
+    c.loop-k.invariant

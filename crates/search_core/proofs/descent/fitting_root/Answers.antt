@@ -1,5 +1,5 @@
+use Rattle.unimodular_cone.proofs.Roots.{root_not_wide}
 use Rattle.symmetric_matrix.specs.Symmetric.{entry}
-use Rattle.search_core.proofs.WaysDown.{root_not_wide}
 use Rattle.search_core.proofs.descent.fitting_root.Goals as goal
 
 pub unreachable-requires : goal.unreachable-requires

@@ -12,23 +12,32 @@ pub returns-then-closed : goal.returns-then-closed
 returns-then-closed c = (
   when_false _,
   λ u. absurd (down_closed c.args.q.now.size (entry c.args.q.now) c.args.bound c.args.path.now c.loop-k.k (omega arith)
-      (closed_at c.args.q.now.size (entry c.args.q.now) (take c.loop-k.k c.args.path.now) c.loop-k.cone c.loop-k.invariant.at_path c.args.bound
+      (closed_at _ _ _ c.loop-k.cone c.loop-k.invariant.at_path c.args.bound
       (rw (read_bound c.args.bound c.requires.low c.requires.high) at (c.if-closed.ensures.0 refl))) u),
 )
 
 pub step_down-requires-clause-splits : goal.step_down-requires-clause-splits
-step_down-requires-clause-splits c = splits_as_shown c.args.q.now.size (entry c.args.q.now) (take c.loop-k.k c.args.path.now) c.loop-k.cone c.loop-k.invariant.at_path
+step_down-requires-clause-splits c =
+    splits_as_shown c.args.q.now.size (entry c.args.q.now) (take c.loop-k.k c.args.path.now) c.loop-k.cone c.loop-k.invariant.at_path
     (c.requires.in_tree.above (take c.loop-k.k c.args.path.now) (take_is_above c.args.path.now c.loop-k.k (omega arith)))
 
 pub loop-k-preserved : goal.loop-k-preserved
 loop-k-preserved c =
-    rw (read_bound c.args.bound c.requires.low c.requires.high) (down_more c.args.q.now.size (entry c.args.q.now) c.args.bound c.args.path.now c.loop-k.k c.loop-k.cone c.step_down.new.c (omega arith) (rw (read_bound c.args.bound c.requires.low c.requires.high) at c.loop-k.invariant)
-    (λ closed. when_false ⊥ ((rw (read_bound c.args.bound c.requires.low c.requires.high) at c.if-closed.ensures).1 (closed_there c.args.q.now.size (entry c.args.q.now) (take c.loop-k.k c.args.path.now) c.loop-k.cone c.loop-k.invariant.at_path c.args.bound closed)))
+    rw (read_bound c.args.bound c.requires.low c.requires.high)
+    (down_more c.args.q.now.size (entry c.args.q.now) c.args.bound c.args.path.now c.loop-k.k c.loop-k.cone c.step_down.new.c (omega arith)
+    (rw (read_bound c.args.bound c.requires.low c.requires.high) at c.loop-k.invariant)
+    (λ closed. when_false ⊥
+    ((rw (read_bound c.args.bound c.requires.low c.requires.high) at c.if-closed.ensures).1
+    (closed_there c.args.q.now.size (entry c.args.q.now) (take c.loop-k.k c.args.path.now) c.loop-k.cone c.loop-k.invariant.at_path c.args.bound
+    closed)))
     (subst (λ (d : ℕ). IsNext c.loop-k.cone (nat_eq d 1) c.step_down.new.c) c.digit.ensures c.step_down.ensures))
 
 pub returns : goal.returns
 returns c = not_test c.closed-2.result _ _ (rw (read_bound c.args.bound c.requires.low c.requires.high) at c.closed-2.ensures)
-    (λ unclosed. down_open c.args.q.now.size (entry c.args.q.now) c.args.bound c.args.path.now c.loop-k.k c.loop-k.cone (omega arith) (rw (read_bound c.args.bound c.requires.low c.requires.high) at c.loop-k.invariant)
-    (λ closed. unclosed (closed_there c.args.q.now.size (entry c.args.q.now) (take c.loop-k.k c.args.path.now) c.loop-k.cone c.loop-k.invariant.at_path c.args.bound closed)))
+    (λ unclosed. down_open c.args.q.now.size (entry c.args.q.now) c.args.bound c.args.path.now c.loop-k.k c.loop-k.cone (omega arith)
+    (rw (read_bound c.args.bound c.requires.low c.requires.high) at c.loop-k.invariant)
+    (λ closed. unclosed
+    (closed_there c.args.q.now.size (entry c.args.q.now) (take c.loop-k.k c.args.path.now) c.loop-k.cone c.loop-k.invariant.at_path c.args.bound
+    closed)))
     (λ closed u. closed_itself c.args.q.now.size (entry c.args.q.now) c.args.bound c.args.path.now c.loop-k.k (omega arith)
-    (closed_at c.args.q.now.size (entry c.args.q.now) (take c.loop-k.k c.args.path.now) c.loop-k.cone c.loop-k.invariant.at_path c.args.bound closed) u)
+    (closed_at _ _ _ c.loop-k.cone c.loop-k.invariant.at_path c.args.bound closed) u)

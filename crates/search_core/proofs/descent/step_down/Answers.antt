@@ -7,4 +7,5 @@ on_side c i j false f = f.first
 on_side c i j true f = f.second
 
 pub step-requires-clause-fits : goal.step-requires-clause-fits
-step-requires-clause-fits c = on_side c.args.c.now (c.in-Some.i - 1) (c.in-Some.j - 1) (nat_eq c.args.side 1) (c.requires.splits.fits c.in-Some.i c.in-Some.j c.in-Some.ensures)
+step-requires-clause-fits c =
+    on_side c.args.c.now (c.in-Some.i - 1) (c.in-Some.j - 1) (nat_eq c.args.side 1) (c.requires.splits.fits c.in-Some.i c.in-Some.j c.in-Some.ensures)

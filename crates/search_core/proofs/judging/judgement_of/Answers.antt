@@ -12,5 +12,5 @@ returns g c =
     record {
       path_is = c.path.ensures;
       least_is = to_z-of_z w128 c.args.least fits ∙ shown_least_is (g.C.ConeRead.cone c.args.c.now) _ (omega arith) c.requires.least;
-      fate = c.fate_of.ensures;
+      fate = rw c.of.ensures at c.fate_of.ensures;
     }

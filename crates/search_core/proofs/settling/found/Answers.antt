@@ -7,17 +7,22 @@ use Rattle.unimodular_cone.specs.Answer.{SearchAnswer, IsSearchAnswer}
 use Rattle.symmetric_matrix.specs.Symmetric.{entry}
 use Rattle.search_core.specs.Fair.{bound_under}
 use Rattle.search_core.specs.Attaining.{ListsGenerators}
-use Rattle.search_core.proofs.Mirrors.{entry_symmetric}
-use Rattle.search_core.proofs.Parts.{part_in_tree, found_answer}
+use Rattle.search_core.proofs.Parts.{IsSettled, settled, part_in_tree, found_answer}
+use Rattle.search_core.proofs.settling.found.Goals.{After-n-n}
 use Rattle.search_core.proofs.settling.found.Goals as goal
 
+here : (c : After-n-n) → IsSettled Mode.Least c.args.q.now.size (entry c.args.q.now) c.args.limit c.args.judged.now c.args.final_word
+here c = settled c.args.q.now c.requires.part c.requires.limited c.n-n.ensures.matrix.positive c.requires.bound_fits c.requires.fits
+
 pub attaining-requires-clause-in_tree : goal.attaining-requires-clause-in_tree
-attaining-requires-clause-in_tree c = part_in_tree Mode.Least c.args.q.now.size (entry c.args.q.now) c.args.limit c.args.judged.now c.args.final_word (entry_symmetric c.args.q.now.size c.args.q.now) c.requires.part c.requires.limited c.n-n.ensures.matrix.positive c.requires.bound_fits c.requires.fits
+attaining-requires-clause-in_tree c = part_in_tree _ _ _ _ _ _ (here (goal.at.attaining-requires-clause-in_tree c).After-n-n)
 
 pub returns-in-Ok : goal.returns-in-Ok
 returns-in-Ok c =
     let fits : FitsSigned w128 c.from.result = omega (arith, ints) in
-    let is : to_z w128 (of_z w128 c.from.result) ≡ bound_under Mode.Least c.args.final_word = to_z-of_z w128 c.from.result fits ∙ c.from.ensures ∙ c.bound_under-minimum.ensures in
+    let is : to_z w128 (of_z w128 c.from.result) ≡ bound_under Mode.Least c.args.final_word = to_z-of_z w128 c.from.result fits ∙ c.from.ensures
+    ∙ c.bound_under-minimum.ensures in
     subst (λ (z : ℤ). IsSearchAnswer Mode.Least c.args.q.now.size (entry c.args.q.now) c.args.limit (SearchAnswer.Found z c.in-Ok.vectors)) (sym is)
-    (found_answer c.args.q.now.size (entry c.args.q.now) c.args.limit c.args.judged.now c.args.final_word (entry_symmetric c.args.q.now.size c.args.q.now) c.requires.part c.requires.limited c.n-n.ensures.matrix.positive c.requires.bound_fits c.requires.fits c.requires.closed.0 c.requires.closed.1 c.in-Ok.vectors
-    (subst (λ (z : ℤ). ListsGenerators c.args.q.now.size (entry c.args.q.now) c.args.judged.now z c.in-Ok.vectors) c.bound_under-minimum.ensures c.in-Ok.ensures))
+    (found_answer (here (goal.at.returns-in-Ok c).After-n-n) c.requires.closed.0 c.requires.closed.1 c.in-Ok.vectors
+    (subst (λ (z : ℤ). ListsGenerators c.args.q.now.size (entry c.args.q.now) c.args.judged.now z c.in-Ok.vectors) c.bound_under-minimum.ensures
+    c.in-Ok.ensures))

@@ -13,4 +13,6 @@ unfolding least_diagonal
 returns c =
     let l : c.least_diagonal.ensures.attained.0 < c.args.q.now.size = c.least_diagonal.ensures.attained.1 in
     let fits : FitsSigned w128 c.least_diagonal.result = omega (arith, ints) in
-    c.start_of_least.ensures ∙ ap (start_of c.args.mode) (to_z-of_z w128 c.least_diagonal.result fits ∙ least_of_diagonal c.args.q.now.size (entry c.args.q.now) _ (omega arith) c.least_diagonal.ensures)
+    c.start_of_least.ensures
+    ∙ ap (start_of c.args.mode) (to_z-of_z w128 c.least_diagonal.result fits
+    ∙ least_of_diagonal c.args.q.now.size (entry c.args.q.now) _ (omega arith) c.least_diagonal.ensures)

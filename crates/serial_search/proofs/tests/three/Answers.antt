@@ -1,26 +1,7 @@
-use Rattle.std.specs.Prelude.{ℕ, zero, suc, ◌<◌, ◌≤◌, ◌^◌, ℤ, pos, FitsSigned, nat_abs, [], ◌∷◌, length, slice_index_or}
-use Rattle.std.specs.Int.{w128}
-use Rattle.std.proofs.Common.{arith, refl, to_z, of_z}
-use Rattle.std.proofs.lemmas.Int.{ints, to_z-of_z}
-use Rattle.exact_forms.specs.Triangles.{triangle}
-use Rattle.symmetric_matrix.specs.Symmetric.{IsLower, FitsInt}
+use Rattle.symmetric_matrix.proofs.SmallLower.{narrow, lower_of_three}
 use Rattle.serial_search.proofs.tests.three.Goals as goal
 
-narrow : (z : ℤ) → nat_abs z ≤ 2 ^ 126 → FitsInt (to_z w128 (of_z w128 z))
-narrow z h = let f : FitsSigned w128 z = omega (arith, ints) in rw (to_z-of_z w128 z f) (omega arith)
-
-six : (a b c d e f : ℤ) → FitsInt a → FitsInt b → FitsInt c → FitsInt d → FitsInt e → FitsInt f → IsLower 3 (a ∷ b ∷ c ∷ d ∷ e ∷ f ∷ [])
-unfolding triangle
-six a b c d e f ha hb hc hd he hf = record { entries = refl; fits = each }
-  where
-    each : (k : ℕ) → k < length (a ∷ b ∷ c ∷ d ∷ e ∷ f ∷ []) → FitsInt (slice_index_or (a ∷ b ∷ c ∷ d ∷ e ∷ f ∷ []) k (pos 0))
-    each zero l = ha
-    each (suc zero) l = hb
-    each (suc (suc zero)) l = hc
-    each (suc (suc (suc zero))) l = hd
-    each (suc (suc (suc (suc zero)))) l = he
-    each (suc (suc (suc (suc (suc zero))))) l = hf
-    each (suc (suc (suc (suc (suc (suc k)))))) l = absurd (omega arith)
-
 pub from_lower-requires-clause-lower : goal.from_lower-requires-clause-lower
-from_lower-requires-clause-lower c = six _ _ _ _ _ _ (narrow c.args.a c.requires.first) (narrow c.args.b c.requires.second) (narrow c.args.c c.requires.third) (narrow c.args.d c.requires.fourth) (narrow c.args.e c.requires.fifth) (narrow c.args.f c.requires.last)
+from_lower-requires-clause-lower c =
+    lower_of_three _ _ _ _ _ _ (narrow c.args.a c.requires.first) (narrow c.args.b c.requires.second) (narrow c.args.c c.requires.third)
+    (narrow c.args.d c.requires.fourth) (narrow c.args.e c.requires.fifth) (narrow c.args.f c.requires.last)

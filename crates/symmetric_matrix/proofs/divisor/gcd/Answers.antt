@@ -13,7 +13,11 @@ found c =
     (c.unsigned_abs.ensures.value ∙ ap nat_abs (to_z-of_z c.ranges.left)) (c.unsigned_abs-2.ensures.value ∙ ap nat_abs (to_z-of_z c.ranges.right))
 
 below : (c : goal.After-gcd_wide) → c.gcd_wide.result < 2 ^ 127
-below c = omega (arith, found c, gcd_of_below (nat_abs c.args.left) (nat_abs c.args.right) (2 ^ 127) (omega (arith, c.requires.left)) (omega (arith, c.requires.right)))
+below c = omega (
+  arith,
+  found c,
+  gcd_of_below (nat_abs c.args.left) (nat_abs c.args.right) (2 ^ 127) (omega (arith, c.requires.left)) (omega (arith, c.requires.right)),
+)
 
 pub overflow_cast-result : goal.overflow_cast-result
 overflow_cast-result c = omega (arith, ints, below c)
@@ -23,7 +27,8 @@ returns-clause-value c = to_z_pos w128 c.gcd_wide.result (below c) ∙ ap pos (f
 
 pub returns-clause-greatest : goal.returns-clause-greatest
 returns-clause-greatest c =
-    subst (IsGcd (nat_abs c.args.left) (nat_abs c.args.right)) (sym (ap nat_abs (returns-clause-value c))) (gcd_of_is (nat_abs c.args.left) (nat_abs c.args.right))
+    subst (IsGcd (nat_abs c.args.left) (nat_abs c.args.right)) (sym (ap nat_abs (returns-clause-value c)))
+    (gcd_of_is (nat_abs c.args.left) (nat_abs c.args.right))
 
 pub returns-clause-fits : goal.returns-clause-fits
 returns-clause-fits c = rw (returns-clause-value c) (omega (arith, found c, below c))

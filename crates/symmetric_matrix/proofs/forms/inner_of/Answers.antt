@@ -11,7 +11,12 @@ pub returns-in_err-sum-clause-value : goal.returns-in_err-sum-clause-value
 returns-in_err-sum-clause-value c =
     let at = c.loop-k in
     let answered = inner_answer_is c.args.n c.args.lower.now c.args.other.now in
-    grind (arith, to_z-of_z, inner_refused c.args.n c.args.lower.now c.args.other.now at.k at.row at.column at.sum (slice_index_or c.args.lower.now at.k (pos 0)) c.times_at.result (slice_index_or c.args.other.now at.k (pos 0)))
+    grind (
+      arith,
+      to_z-of_z,
+      inner_refused c.args.n c.args.lower.now c.args.other.now at.k at.row at.column at.sum (slice_index_or c.args.lower.now at.k (pos 0))
+          c.times_at.result (slice_index_or c.args.other.now at.k (pos 0)),
+    )
 
 pub loop-k-init : goal.loop-k-init
 loop-k-init c = record { place = omega (arith, triangle-zero); column = omega arith; same = refl }
@@ -21,14 +26,32 @@ stepped : (c : goal.Joined-column-row)
     ≡ sum_answer (drop (c.loop-k.k + 1) (inner_products c.args.n c.args.lower.now c.args.other.now)) (to_z w128 (of_z w128 c.in_ok-sum.sum))
 stepped c =
     let at = c.loop-k in
-    grind (arith, to_z-of_z, inner_continues c.args.n c.args.lower.now c.args.other.now at.k at.row at.column at.sum (slice_index_or c.args.lower.now at.k (pos 0)) c.times_at.result (slice_index_or c.args.other.now at.k (pos 0)))
+    grind (
+      arith,
+      to_z-of_z,
+      inner_continues c.args.n c.args.lower.now c.args.other.now at.k at.row at.column at.sum (slice_index_or c.args.lower.now at.k (pos 0))
+          c.times_at.result (slice_index_or c.args.other.now at.k (pos 0)),
+    )
 
 pub loop-k-preserved : goal.loop-k-preserved
 loop-k-preserved c = elim c.if-column-row.branch [
   | then-column-row w ↦
-      rw (w.row-is, w.column-is) record { place = next_in_row c.loop-k.row c.loop-k.column c.loop-k.k c.loop-k.invariant.place; column = omega arith; same = stepped c }
+      rw (w.row-is, w.column-is) record {
+        place = next_in_row c.loop-k.row c.loop-k.column c.loop-k.k c.loop-k.invariant.place;
+        column = omega arith;
+        same = stepped c;
+      }
   | else-column-row w ↦
-      rw (w.row-is, w.column-is) record { place = next_row_begins c.loop-k.row c.loop-k.column c.loop-k.k c.loop-k.invariant.place c.loop-k.invariant.column w.if-column-row.false; column = omega arith; same = stepped c }
+      rw (
+        w.row-is,
+        w.column-is,
+      ) record {
+        place =
+            next_row_begins c.loop-k.row c.loop-k.column c.loop-k.k c.loop-k.invariant.place c.loop-k.invariant.column w.if-column-row.false;
+        column =
+            omega arith;
+        same = stepped c;
+      }
 ]
 
 pub returns-clause-value : goal.returns-clause-value

@@ -9,13 +9,15 @@ use Rattle.unimodular_cone.proofs.bound_test.left_after.Goals.{then-beside-lt0, 
 pub overflow_add-left : goal.overflow_add-left
 overflow_add-left g c =
     let few : c.loop-j.j < 8 = omega (arith, c.requires.fits.few) in
-    let small : nat_abs (shown_gram (g.C.ConeRead.cone c.args.c.now) c.args.i c.loop-j.j) ≤ 2 ^ 100 = gram_within _ _ _ c.requires.fits c.requires.range (omega arith) in
+    let small : nat_abs (shown_gram (g.C.ConeRead.cone c.args.c.now) c.args.i c.loop-j.j) ≤ 2 ^ 100 =
+    gram_within _ _ _ c.requires.fits c.requires.range (omega arith) in
     rw (read_back _ _ c.entry-beside.ensures small) (part_fits _ _ _ _ c.loop-j.invariant few small)
 
 pub loop-j-preserved : goal.loop-j-preserved
 loop-j-preserved g c =
     let few : c.loop-j.j < 8 = omega (arith, c.requires.fits.few) in
-    let small : nat_abs (shown_gram (g.C.ConeRead.cone c.args.c.now) c.args.i c.loop-j.j) ≤ 2 ^ 100 = gram_within _ _ _ c.requires.fits c.requires.range (omega arith) in
+    let small : nat_abs (shown_gram (g.C.ConeRead.cone c.args.c.now) c.args.i c.loop-j.j) ≤ 2 ^ 100 =
+    gram_within _ _ _ c.requires.fits c.requires.range (omega arith) in
     let back = read_back _ _ c.entry-beside.ensures small in
     let ne : c.loop-j.j ≢ c.args.i = c.requires.beside c.loop-j.j c.loop-j.auto.j c.loop-j-test.true in
     elim c.if-beside-lt0.branch [

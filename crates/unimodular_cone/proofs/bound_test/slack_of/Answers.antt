@@ -7,7 +7,8 @@ use Rattle.unimodular_cone.proofs.bound_test.slack_of.Goals as goal
 
 pub left_after-left-requires-clause-part : goal.left_after-left-requires-clause-part
 left_after-left-requires-clause-part g c =
-    let small : nat_abs (shown_gram (g.C.ConeRead.cone c.args.c.now) c.args.i c.args.i) ≤ 2 ^ 100 = gram_within _ _ _ c.requires.fits (omega arith) (omega arith) in
+    let small : nat_abs (shown_gram (g.C.ConeRead.cone c.args.c.now) c.args.i c.args.i) ≤ 2 ^ 100 =
+    gram_within _ _ _ c.requires.fits (omega arith) (omega arith) in
     rw (read_back _ _ c.entry.ensures small) (part_start _ _ small)
 
 pub left_after-requires-clause-part : goal.left_after-requires-clause-part

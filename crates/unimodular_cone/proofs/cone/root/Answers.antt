@@ -7,7 +7,11 @@ returns-in-Some-clause-wide c = root_wide c.args.q.now (record { path = c.root-p
 pub invariant_of-result : goal.invariant_of-result
 invariant_of-result c =
     rw (c.n.ensures.value, c.root-path.ensures)
-    (record { within = root_is_within c.args.q.now c.lower_of.result c.unit_rows.result c.n.ensures.matrix c.lower_of.ensures c.unit_rows.ensures c.in_default.ensures; room = c.unit_rows.ensures.room })
+    (record {
+      within = root_is_within c.args.q.now c.lower_of.result c.unit_rows.result c.n.ensures.matrix c.lower_of.ensures c.unit_rows.ensures
+          c.in_default.ensures;
+      room = c.unit_rows.ensures.room;
+    })
 
 pub returns-clause-made : goal.returns-clause-made
 returns-clause-made c =

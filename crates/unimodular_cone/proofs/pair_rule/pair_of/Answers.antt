@@ -1,48 +1,40 @@
 use Rattle.std.specs.Prelude.{◌≡◌, ◌-◌, ◌+◌}
-use Rattle.std.proofs.Common.{arith, ◌∙◌, ap, rules}
-use Rattle.unimodular_cone.specs.Cones.{IsPair, best_in_rows}
+use Rattle.std.proofs.Common.{arith, rules}
+use Rattle.unimodular_cone.specs.Cones.{IsPair}
 use Rattle.unimodular_cone.specs.Shown.{shown_gram}
 use Rattle.unimodular_cone.proofs.BestPairs.{best_is_pair, best_is_none, tested_negative, tested_not_negative}
+use Rattle.unimodular_cone.proofs.pair_rule.pair_of.Given.{Over}
+use Rattle.unimodular_cone.proofs.pair_rule.pair_of.Goals.{Then-best-lt0}
 use Rattle.unimodular_cone.proofs.pair_rule.pair_of.Goals as goal
 
-pub overflow_add-result : goal.overflow_add-result
-overflow_add-result g c =
+pair : (g : Over) (c : Then-best-lt0 g)
+    → IsPair (g.C.ConeRead.cone c.args.c.now).size (shown_gram (g.C.ConeRead.cone c.args.c.now)) c.loop-row.best.row c.loop-row.best.column
+pair g c =
     let row_end : c.loop-row.row ≡ c.args.n = omega arith in
-    let pair : IsPair (g.C.ConeRead.cone c.args.c.now).size (shown_gram (g.C.ConeRead.cone c.args.c.now)) c.loop-row.best.row c.loop-row.best.column =
-    best_is_pair _ _ _ c.requires.size (c.loop-row.invariant.pair ∙ ap (best_in_rows (shown_gram (g.C.ConeRead.cone c.args.c.now)) c.args.n) row_end) (tested_negative c.loop-row.best.value (search rules) c.if-best-lt0.true) in
-    omega (arith, pair.order, pair.range, c.requires.fits.few)
+    best_is_pair _ _ _ c.requires.size (rw row_end at c.loop-row.invariant.pair) (tested_negative c.loop-row.best.value (search rules) c.if-best-lt0.true)
+
+pub overflow_add-result : goal.overflow_add-result
+overflow_add-result g c = let p = pair g (goal.at.overflow_add-result g c).Then-best-lt0 in omega (arith, p.order, p.range, c.requires.fits.few)
 
 pub overflow_add-result-then-best-lt0 : goal.overflow_add-result-then-best-lt0
 overflow_add-result-then-best-lt0 g c =
-    let row_end : c.loop-row.row ≡ c.args.n = omega arith in
-    let pair : IsPair (g.C.ConeRead.cone c.args.c.now).size (shown_gram (g.C.ConeRead.cone c.args.c.now)) c.loop-row.best.row c.loop-row.best.column =
-    best_is_pair _ _ _ c.requires.size (c.loop-row.invariant.pair ∙ ap (best_in_rows (shown_gram (g.C.ConeRead.cone c.args.c.now)) c.args.n) row_end) (tested_negative c.loop-row.best.value (search rules) c.if-best-lt0.true) in
-    omega (arith, pair.range, c.requires.fits.few)
+    let p = pair g (goal.at.overflow_add-result-then-best-lt0 g c).Then-best-lt0 in omega (arith, p.range, c.requires.fits.few)
 
 pub overflow_cast-result : goal.overflow_cast-result
-overflow_cast-result g c =
-    let row_end : c.loop-row.row ≡ c.args.n = omega arith in
-    let pair : IsPair (g.C.ConeRead.cone c.args.c.now).size (shown_gram (g.C.ConeRead.cone c.args.c.now)) c.loop-row.best.row c.loop-row.best.column =
-    best_is_pair _ _ _ c.requires.size (c.loop-row.invariant.pair ∙ ap (best_in_rows (shown_gram (g.C.ConeRead.cone c.args.c.now)) c.args.n) row_end) (tested_negative c.loop-row.best.value (search rules) c.if-best-lt0.true) in
-    omega (arith, pair.order, pair.range, c.requires.fits.few)
+overflow_cast-result g c = let p = pair g (goal.at.overflow_cast-result g c).Then-best-lt0 in omega (arith, p.order, p.range, c.requires.fits.few)
 
 pub overflow_cast-result-then-best-lt0 : goal.overflow_cast-result-then-best-lt0
 overflow_cast-result-then-best-lt0 g c =
-    let row_end : c.loop-row.row ≡ c.args.n = omega arith in
-    let pair : IsPair (g.C.ConeRead.cone c.args.c.now).size (shown_gram (g.C.ConeRead.cone c.args.c.now)) c.loop-row.best.row c.loop-row.best.column =
-    best_is_pair _ _ _ c.requires.size (c.loop-row.invariant.pair ∙ ap (best_in_rows (shown_gram (g.C.ConeRead.cone c.args.c.now)) c.args.n) row_end) (tested_negative c.loop-row.best.value (search rules) c.if-best-lt0.true) in
-    omega (arith, pair.range, c.requires.fits.few)
+    let p = pair g (goal.at.overflow_cast-result-then-best-lt0 g c).Then-best-lt0 in omega (arith, p.range, c.requires.fits.few)
 
 pub returns-then-best-lt0 : goal.returns-then-best-lt0
 returns-then-best-lt0 g c =
-    let row_end : c.loop-row.row ≡ c.args.n = omega arith in
-    let pair : IsPair (g.C.ConeRead.cone c.args.c.now).size (shown_gram (g.C.ConeRead.cone c.args.c.now)) c.loop-row.best.row c.loop-row.best.column =
-    best_is_pair _ _ _ c.requires.size (c.loop-row.invariant.pair ∙ ap (best_in_rows (shown_gram (g.C.ConeRead.cone c.args.c.now)) c.args.n) row_end) (tested_negative c.loop-row.best.value (search rules) c.if-best-lt0.true) in
+    let p = pair g (goal.at.returns-then-best-lt0 g c).Then-best-lt0 in
     let row : c.loop-row.best.row + 1 - 1 ≡ c.loop-row.best.row = omega arith in
     let column : c.loop-row.best.column + 1 - 1 ≡ c.loop-row.best.column = omega arith in
-    (omega arith, rw (row, column) pair)
+    (omega arith, rw (row, column) p)
 
 pub returns-else-best-lt0 : goal.returns-else-best-lt0
 returns-else-best-lt0 g c =
     let row_end : c.loop-row.row ≡ c.args.n = omega arith in
-    best_is_none _ _ _ c.requires.size (c.loop-row.invariant.pair ∙ ap (best_in_rows (shown_gram (g.C.ConeRead.cone c.args.c.now)) c.args.n) row_end) (tested_not_negative c.loop-row.best.value (search rules) c.if-best-lt0.false)
+    best_is_none _ _ _ c.requires.size (rw row_end at c.loop-row.invariant.pair) (tested_not_negative c.loop-row.best.value (search rules) c.if-best-lt0.false)

@@ -11,5 +11,8 @@ loop-column-preserved c =
     let column : c.loop-column.column + 1 - 1 ≡ c.loop-column.column = omega arith in
     let larger : max c.args.row c.loop-column.column ≡ c.args.row = omega arith in
     let lesser : min c.args.row c.loop-column.column ≡ c.loop-column.column = omega arith in
-    row_copied_more c.args.q.now c.args.row c.loop-column.column c.place_of.result c.args.lower.now c.loop-column.lower c.get.result c.loop-column.invariant c.told-lower
-    (omega arith) (omega (arith, c.n-n.ensures.matrix.small)) (c.place_of.ensures.place ∙ ap₂ (λ (i : ℕ) (j : ℕ). triangle i + j) larger lesser) (c.get.ensures.value ∙ ap₂ (λ (i : ℕ) (j : ℕ). entry c.args.q.now i j) row column) c.get.ensures.fits
+    row_copied_more c.args.q.now c.args.row c.loop-column.column c.place_of.result c.args.lower.now c.loop-column.lower c.get.result c.loop-column.invariant
+    c.told-lower
+    (omega arith) (omega (arith, c.n-n.ensures.matrix.small)) (c.place_of.ensures.place
+    ∙ ap₂ (λ (i : ℕ) (j : ℕ). triangle i + j) larger lesser) (c.get.ensures.value
+    ∙ ap₂ (λ (i : ℕ) (j : ℕ). entry c.args.q.now i j) row column) c.get.ensures.fits

@@ -8,7 +8,8 @@ join_seat-requires c = let id = sym (ap (λ v. v.id) c.self.view_is) in (
   ap (λ v. v.table) c.other.view_is ∙ c.requires.tables.1 ∙ id,
   c.other.invariant.0,
   omega (arith, c.self.invariant.0),
-  joins _ _ _ _ _ (ap (λ v. v.first) c.seat.view_is ∙ c.requires.first) c.seat.invariant.3 (ap (λ v. v.first) c.other.view_is ∙ c.requires.another) c.other.invariant.3,
+  joins _ _ _ _ _ (ap (λ v. v.first) c.seat.view_is ∙ c.requires.first) c.seat.invariant.3 (ap (λ v. v.first) c.other.view_is
+      ∙ c.requires.another) c.other.invariant.3,
 )
 
 pub load-seat-inside-requires : goal.load-seat-inside-requires

@@ -9,7 +9,8 @@ use Rattle.cone_arena.proofs.rows.Rows.push.Goals as goal
 pub invariant_of-self : goal.invariant_of-self
 invariant_of-self c =
     let slots = c.self.inside.cells.slots in
-    let room = counted_below slots c.self.inside.written c.self.invariant.laid c.self.inside.room c.self.invariant.places c.args.self.now c.self.view_is c.requires in
+    let room = counted_below slots c.self.inside.written c.self.invariant.laid c.self.inside.room c.self.invariant.places c.args.self.now c.self.view_is
+    c.requires in
     let added = row_added slots c.self.inside.written c.args.cone c.self.invariant.laid room in
     record {
       laid = subst (λ (s : Places). IsLaid s (c.self.inside.written + 1)) (sym c.write.ensures.1) added.0;
@@ -23,6 +24,7 @@ invariant_of-self c =
 pub returns-clause-items : goal.returns-clause-items
 returns-clause-items c =
     let slots = c.self.inside.cells.slots in
-    let room = counted_below slots c.self.inside.written c.self.invariant.laid c.self.inside.room c.self.invariant.places c.args.self.now c.self.view_is c.requires in
+    let room = counted_below slots c.self.inside.written c.self.invariant.laid c.self.inside.room c.self.invariant.places c.args.self.now c.self.view_is
+    c.requires in
     let added = row_added slots c.self.inside.written c.args.cone c.self.invariant.laid room in
     ap somes c.write.ensures.1 ∙ added.1 ∙ ap (λ (r : ShownRows). r.items ++ c.args.cone ∷ []) c.self.view_is

@@ -1,5 +1,4 @@
 use Rattle.std.proofs.Common.{[], ◌∷◌}
-use Rattle.symmetric_matrix.specs.Symmetric.{entry}
 use Rattle.cone_pool.proofs.Carrying.{restacked, kept_it}
 use Rattle.cone_pool.proofs.member.Member.handle.Goals as goal
 
@@ -8,10 +7,8 @@ reach-requires c = c.requires.part.cones
 
 pub returns-then-not-reach-clause-part : goal.returns-then-not-reach-clause-part
 returns-then-not-reach-clause-part c =
-    kept_it c.args.mode c.args.q.now.size (entry c.args.q.now) c.args.limit c.args.path _ c.add.new.self c.uncount.new.seat c.add.ensures c.uncount.ensures
-    (restacked c.args.mode c.args.q.now.size (entry c.args.q.now) c.args.limit
-    (c.args.path ∷ []) c.args.self.now c.reach.new.stack c.reach.ensures.cones c.requires.part)
+    kept_it _ _ _ _ c.args.path _ c.add.new.self c.uncount.new.seat c.add.ensures c.uncount.ensures
+    (restacked _ _ _ _ (c.args.path ∷ []) c.args.self.now c.reach.new.stack c.reach.ensures.cones c.requires.part)
 
 pub treat-requires-clause-part : goal.treat-requires-clause-part
-treat-requires-clause-part c = restacked c.args.mode c.args.q.now.size (entry c.args.q.now) c.args.limit
-    (c.args.path ∷ []) c.args.self.now c.reach.new.stack c.reach.ensures.cones c.requires.part
+treat-requires-clause-part c = restacked _ _ _ _ (c.args.path ∷ []) c.args.self.now c.reach.new.stack c.reach.ensures.cones c.requires.part

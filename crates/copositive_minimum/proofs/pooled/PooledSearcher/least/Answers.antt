@@ -4,4 +4,6 @@ use Rattle.serial_search.proofs.Holds.{least_holds}
 use Rattle.copositive_minimum.proofs.pooled.PooledSearcher.least.Goals as goal
 
 pub returns-in-None-clause-holds : goal.returns-in-None-clause-holds
-returns-in-None-clause-holds g c = least_holds c.args.q.now.size (entry c.args.q.now) c.args.limit c.least_within.result (entry_symmetric c.args.q.now.size c.args.q.now) c.least_within.ensures
+returns-in-None-clause-holds g c =
+    least_holds c.args.q.now.size (entry c.args.q.now) c.args.limit c.least_within.result (entry_symmetric c.args.q.now.size c.args.q.now)
+    c.least_within.ensures

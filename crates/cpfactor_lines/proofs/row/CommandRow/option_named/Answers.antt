@@ -11,6 +11,7 @@ use Rattle.cpfactor_lines.proofs.row.CommandRow.option_named.Goals as goal
 
 pub returns : goal.returns
 returns c =
-    let found = find_from_yields_List (λ (o : OptionRow). bytes_eq c.args.word.now o.name.now) _ _ c.find.result c.find.ensures.ran (YieldsList-from_slice c.args.self.now.options.now cc) (λ x b q k. search (rules, tests)) in
+    let found = find_from_yields_List (λ (o : OptionRow). bytes_eq c.args.word.now o.name.now) _ _ c.find.result c.find.ensures.ran
+    (YieldsList-from_slice c.args.self.now.options.now cc) (λ x b q k. search (rules, tests)) in
     let same : c.copied.result ≡ find (λ (o : OptionRow). bytes_eq c.args.word.now o.name.now) c.args.self.now.options.now = c.copied.ensures ∙ found in
     ap (option_map option_of) same ∙ option_named-of c.args.self.now.options.now c.args.word.now

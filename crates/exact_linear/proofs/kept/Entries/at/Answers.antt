@@ -1,11 +1,13 @@
 use Rattle.std.proofs.Common.{◌≡◌, ◌∙◌, ◌<◌, nat_abs, arith, sym, ap, subst, pos, ◌≤ℤ◌, ℤ, List, length}
 use Rattle.std.proofs.lemmas.Int.{ints}
 use Rattle.std.proofs.lemmas.List.{get_or_read}
+use Rattle.symmetric_matrix.proofs.Narrow.{read_64_128}
+use Rattle.commutative_ring.proofs.SmallCases.{positive_abs}
 use Rattle.exact_forms.specs.Rational.{Rational, whole}
 use Rattle.exact_linear.specs.Tables.{entry_of}
 use Rattle.exact_linear.specs.Whole.{whole_at, fractions_over, entries_in}
-use Rattle.exact_linear.proofs.WholeEntries.{fractions_entry, at_least_one_positive}
-use Rattle.exact_linear.proofs.KeptEntries.{kept_size, kept_over, kept_fractions, wide_small_back}
+use Rattle.exact_linear.proofs.WholeEntries.{fractions_entry}
+use Rattle.exact_linear.proofs.KeptEntries.{kept_size, kept_over, kept_fractions}
 use Rattle.exact_linear.proofs.kept.Entries.at.Goals as goal
 
 pub index-requires : goal.index-requires
@@ -46,9 +48,9 @@ returns-else-self-eq0 c =
     get_or_read c.self.inside.wholes.items c.args.k c.index-else-self-eq0.result.now (omega arith) c.index-else-self-eq0.ensures (pos 0) in
     (rw (
       e,
-      wide_small_back (whole_at c.self.inside.wholes.items c.args.k) (c.self.invariant.small.small c.args.k),
-      wide_small_back c.self.inside.den
+      read_64_128 (whole_at c.self.inside.wholes.items c.args.k) (c.self.invariant.small.small c.args.k),
+      read_64_128 c.self.inside.den
           c.self.invariant.den_small,
     ) at c.new.ensures)
-    ∙ sym (fractions_entry (nat_abs c.self.inside.den) c.self.inside.wholes.items c.args.k (at_least_one_positive c.self.inside.den above))
+    ∙ sym (fractions_entry (nat_abs c.self.inside.den) c.self.inside.wholes.items c.args.k (positive_abs c.self.inside.den above))
     ∙ ap (λ (xs : List Rational). entry_of xs c.args.k) (sym now)

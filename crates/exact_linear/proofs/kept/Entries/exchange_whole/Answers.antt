@@ -1,7 +1,7 @@
 use Rattle.std.proofs.Common.{◌≡◌, ◌∙◌, ◌+◌, ◌*◌, ◌<◌, ◌^◌, nat_abs, arith, sym, ap, pos, ◌≤ℤ◌, length}
 use Rattle.std.proofs.lemmas.Int.{ints}
 use Rattle.std.proofs.lemmas.List.{get_or_read, with_items_is}
-use Rattle.exact_linear.proofs.WholeEntries.{small_back}
+use Rattle.symmetric_matrix.proofs.Narrow.{read_64}
 use Rattle.exact_linear.specs.Whole.{whole_at}
 use Rattle.exact_linear.proofs.Rows.{row_within}
 use Rattle.exact_linear.proofs.KeptEntries.{kept_size, kept_pivot, kept_made, kept_owes}
@@ -43,7 +43,7 @@ magnitude-self-inside-requires c =
     get_or_read c.self.inside.wholes.items (c.args.row * c.args.width + c.args.column) c.index.result.now (omega arith) c.index.ensures (pos 0) in
     let l : nat_abs (whole_at c.self.inside.wholes.items (c.args.row * c.args.width + c.args.column)) < 2 ^ 63 =
     c.self.invariant.small.small (c.args.row * c.args.width + c.args.column) in
-    rw (e, small_back (whole_at c.self.inside.wholes.items (c.args.row * c.args.width + c.args.column)) l) l
+    rw (e, read_64 (whole_at c.self.inside.wholes.items (c.args.row * c.args.width + c.args.column)) l) l
 
 above_of : (c : goal.After-swap) → pos 1 ≤ℤ c.self.inside.den
 above_of c = let n = c.self.invariant.not_negative in let f = c.if-self-eq0.false in omega (arith, ints)
@@ -62,7 +62,7 @@ pivot_is c =
     get_or_read c.self.inside.wholes.items (c.args.row * c.args.width + c.args.column) c.index.result.now (omega arith) c.index.ensures (pos 0) in
     rw (
       e,
-      small_back (whole_at c.self.inside.wholes.items (c.args.row * c.args.width + c.args.column))
+      read_64 (whole_at c.self.inside.wholes.items (c.args.row * c.args.width + c.args.column))
           (c.self.invariant.small.small (c.args.row * c.args.width + c.args.column)),
     ) at c.magnitude-self-inside.ensures.value
 
@@ -76,7 +76,7 @@ pub invariant_of-self-2 : goal.invariant_of-self-2
 invariant_of-self-2 c =
     let n = new_is c in
     let y : c.swap.new.y.items ≡ c.self.inside.wholes.items = search in
-    rw (small_back c.magnitude-self-inside.result c.magnitude-self-inside.ensures.small, n, y) record {
+    rw (read_64 c.magnitude-self-inside.result c.magnitude-self-inside.ensures.small, n, y) record {
       den_small = c.magnitude-self-inside.ensures.small;
       not_negative = rw (pivot_is c)
           (let z : pos 0 ≤ℤ pos (nat_abs (whole_at c.self.inside.wholes.items (c.args.row * c.args.width + c.args.column))) = omega (arith, ints) in
@@ -89,14 +89,14 @@ invariant_of-self-2 c =
 
 pub returns-clause-made : goal.returns-clause-made
 returns-clause-made c = λ _.
-    rw (small_back c.magnitude-self-inside.result c.magnitude-self-inside.ensures.small, new_is c)
+    rw (read_64 c.magnitude-self-inside.result c.magnitude-self-inside.ensures.small, new_is c)
     (kept_made c.args.width c.args.row c.args.column c.args.self.now c.self.inside.den c.self.inside.wholes.items c.exchange_wholes.new.into
     c.self.inside.fractions.items c.self.inside.fractions.items
     (whole_at c.self.inside.wholes.items (c.args.row * c.args.width + c.args.column)) c.magnitude-self-inside.result (sym c.self.view_is) (above_of c)
     (pivot_is c)
     (kept_pivot c.args.self.now c.self.inside.den c.self.inside.wholes.items c.self.inside.fractions.items (c.args.row * c.args.width + c.args.column)
     (sym c.self.view_is) (above_of c) c.requires.pivot)
-    (rw (c.deref.ensures.value, small_back c.self.inside.den c.self.invariant.den_small) at (c.exchange_wholes.ensures.made c.if-not-exchange_wholes.false)))
+    (rw (c.deref.ensures.value, read_64 c.self.inside.den c.self.invariant.den_small) at (c.exchange_wholes.ensures.made c.if-not-exchange_wholes.false)))
 
 pub returns-clause-owes : goal.returns-clause-owes
 returns-clause-owes c = λ _.

@@ -2,10 +2,10 @@ use Rattle.std.proofs.Common.{◌≡◌, ◌∙◌, ◌*◌, nat_abs, arith, sym
 use Rattle.std.specs.Vec.{with_items}
 use Rattle.std.proofs.lemmas.Int.{ints}
 use Rattle.std.proofs.lemmas.List.{with_items_is}
+use Rattle.symmetric_matrix.proofs.Narrow.{read_64}
 use Rattle.exact_forms.specs.Rational.{Rational}
 use Rattle.exact_linear.specs.Columns.{with_ones}
 use Rattle.exact_linear.specs.Whole.{entries_in, fractions_over}
-use Rattle.exact_linear.proofs.WholeEntries.{small_back}
 use Rattle.exact_linear.proofs.KeptEntries.{kept_size, kept_fractions, kept_wholes, kept_over}
 use Rattle.exact_linear.proofs.kept.Entries.fill_last.Goals as goal
 
@@ -46,7 +46,7 @@ returns c =
     let d = nat_abs e.den in
     let above : pos 1 ≤ℤ e.den = (let n = c.self.invariant.not_negative in let f = c.if-self-eq0.false in omega (arith, ints)) in
     let room = c.fill_last_wholes.auto.wholes ∙ ap length c.deref_mut-2.ensures.value ∙ sym (e.wholes.ok.0) in
-    let made = rw (small_back e.den c.self.invariant.den_small) at c.fill_last_wholes.ensures.made in
+    let made = rw (read_64 e.den c.self.invariant.den_small) at c.fill_last_wholes.ensures.made in
     kept_wholes e.den _ e.fractions.items above
     ∙ ap (λ (ws : List ℤ). fractions_over d ws) (with_items_is e.wholes new room)
     ∙ made

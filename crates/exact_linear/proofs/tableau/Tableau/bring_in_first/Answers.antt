@@ -14,10 +14,12 @@ bring_in-requires-clause-last c =
     let r = c.rows-rows.ensures.value in let l = c.loop-k-test.true in let q = c.requires in omega arith
 
 pub overflow_add-rows : goal.overflow_add-rows
-overflow_add-rows c = let a = c.rows-rows.ensures.value in let b = c.loop-k-test.true in let w = c.columns-width.ensures in let q = c.requires in omega (arith, c.columns-width.type_inv)
+overflow_add-rows c = let a = c.rows-rows.ensures.value in let b = c.loop-k-test.true in let w = c.columns-width.ensures in let q = c.requires in
+    omega (arith, c.columns-width.type_inv)
 
 pub overflow_add-rows-in-loop-k : goal.overflow_add-rows-in-loop-k
-overflow_add-rows-in-loop-k c = let a = c.rows-rows.ensures.value in let b = c.loop-k-test.true in let w = c.columns-width.ensures in let q = c.requires in omega (arith, c.columns-width.type_inv)
+overflow_add-rows-in-loop-k c = let a = c.rows-rows.ensures.value in let b = c.loop-k-test.true in let w = c.columns-width.ensures in let q = c.requires in
+    omega (arith, c.columns-width.type_inv)
 
 pub returns-in_err-bring_in-clause-made : goal.returns-in_err-bring_in-clause-made
 returns-in_err-bring_in-clause-made c =
@@ -25,7 +27,8 @@ returns-in_err-bring_in-clause-made c =
     let whole : Err c.in_err-bring_in.field-0.0 ≡ answer entry_is_owed (first_ops c.args.self c.args.count) (first_bases c.args.self c.args.count) =
     answer_some (first_ops c.args.self c.args.count) (first_bases c.args.self c.args.count) c.in_err-bring_in.field-0.0
     (so_far_refused c.args.self c.loop-k.tableau c.loop-k.k c.args.count c.in_err-bring_in.field-0.0 c.loop-k.invariant c.loop-k-test.true
-    (subst (λ (n : ℕ). answer entry_is_owed (bring_ops c.loop-k.tableau n) (tt {0}) ≡ Err c.in_err-bring_in.field-0.0) column (sym c.bring_in.ensures.refused ∙ c.in_err-bring_in.was))) in
+    (subst (λ (n : ℕ). answer entry_is_owed (bring_ops c.loop-k.tableau n) (tt {0}) ≡ Err c.in_err-bring_in.field-0.0) column (sym c.bring_in.ensures.refused
+    ∙ c.in_err-bring_in.was))) in
     grind arith
 
 pub loop-k-preserved : goal.loop-k-preserved
@@ -36,7 +39,9 @@ loop-k-preserved c =
     (subst (λ (n : ℕ). c.bring_in.new.self ≡ brought_in c.loop-k.tableau n) column c.in_ok-bring_in.ensures.made) c.bring_in.ensures.coordinates
 
 pub returns-clause-made : goal.returns-clause-made
-returns-clause-made c = so_far_all c.args.self c.loop-k.tableau c.loop-k.k c.args.count c.loop-k.invariant (let a = c.loop-k-test.false in let b = c.loop-k.auto.k-end in omega arith)
+returns-clause-made c =
+    so_far_all c.args.self c.loop-k.tableau c.loop-k.k c.args.count c.loop-k.invariant (let a = c.loop-k-test.false in let b = c.loop-k.auto.k-end in
+    omega arith)
 
 pub returns-clause-coordinates : goal.returns-clause-coordinates
 returns-clause-coordinates c = c.loop-k.invariant.coordinates

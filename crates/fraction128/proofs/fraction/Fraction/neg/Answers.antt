@@ -13,4 +13,7 @@ invariant_of-result c =
 pub returns : goal.returns
 returns c =
     let self_den : SFits w128 c.self.inside.den = search rules in
-    rw (neg_back c.self.inside.num c.self.invariant.fits, to_z-of_z self_den) (ratio-neg c.self.inside.num c.self.inside.den c.args.self c.self.invariant c.self.view_is)
+    rw (
+      neg_back c.self.inside.num c.self.invariant.fits,
+      to_z-of_z self_den,
+    ) (ratio-neg c.self.inside.num c.self.inside.den c.args.self c.self.invariant c.self.view_is)

@@ -1,9 +1,9 @@
-use Rattle.std.specs.Prelude.{◌≡◌, ℕ, ◌-◌, min, slice_set}
+use Rattle.std.specs.Prelude.{ℕ, ◌-◌, min, slice_set}
 use Rattle.std.proofs.Common.{ap, refl, ◌∙◌}
 use Rattle.search_core.specs.declared.event.Event.TheVariants.{Offer}
 use Rattle.search_core.specs.Machine.{Taken, Offered, State}
-use Rattle.search_core.specs.Events.{ShownMachine, HasInHand}
-use Rattle.search_core.proofs.Steps.{saw, taken_in_tree, offers, event_keeps}
+use Rattle.search_core.specs.Events.{HasInHand}
+use Rattle.search_core.proofs.Steps.{shown_of, saw, taken_in_tree, offers, event_keeps}
 use Rattle.search_core.proofs.machine.Machine.offer.Goals as goal
 
 pub code_of_path-requires-clause-in_tree : goal.code_of_path-requires-clause-in_tree
@@ -13,12 +13,7 @@ code_of_path-requires-clause-in_tree c =
 
 pub invariant_of-self : goal.invariant_of-self
 invariant_of-self c =
-    let m : ShownMachine = record {
-      mode = c.self.inside.mode;
-      matrix = c.self.inside.matrix;
-      limit = c.self.inside.limit;
-      state = record { waiting = c.self.inside.waiting.items; hands = c.self.inside.hands.items; word = c.self.inside.word; judged = c.self.inside.judged.items };
-    } in
+    let m = shown_of c.self.inside in
     let has : HasInHand m.state.hands c.args.worker (Taken c.in-Taken.path) = saw c.deref.ensures.value c.in-Taken.is c.in-Some.ensures in
     let new : State = record {
       waiting = c.self.inside.waiting.items;

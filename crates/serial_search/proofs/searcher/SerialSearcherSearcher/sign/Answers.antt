@@ -4,4 +4,5 @@ use Rattle.serial_search.proofs.Holds.{sign_holds}
 use Rattle.serial_search.proofs.searcher.SerialSearcherSearcher.sign.Goals as goal
 
 pub returns-clause-holds : goal.returns-clause-holds
-returns-clause-holds c = sign_holds c.args.q.now.size (entry c.args.q.now) c.args.limit c.sign_within.result (entry_symmetric c.args.q.now.size c.args.q.now) c.sign_within.ensures
+returns-clause-holds c =
+    sign_holds c.args.q.now.size (entry c.args.q.now) c.args.limit c.sign_within.result (entry_symmetric c.args.q.now.size c.args.q.now) c.sign_within.ensures

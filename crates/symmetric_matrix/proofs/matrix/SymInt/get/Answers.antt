@@ -7,7 +7,8 @@ use Rattle.symmetric_matrix.proofs.matrix.SymInt.get.Goals as goal
 pub index-requires : goal.index-requires
 index-requires c =
     let size = ap (λ (q : Symmetric). q.size) c.self.view_is in
-    let inside = place_in_range _ c.self.invariant c.args.row c.args.column c.place_of.result c.requires.first_row (omega arith) c.requires.first_column (omega arith)
+    let inside = place_in_range _ c.self.invariant c.args.row c.args.column c.place_of.result c.requires.first_row (omega arith) c.requires.first_column
+    (omega arith)
     (rw (c.max-below.ensures, c.min-beside.ensures) at c.place_of.ensures) in
     omega arith
 

@@ -8,4 +8,5 @@ invariant_of-self c =
 
 pub returns : goal.returns
 returns c =
-    same_shown c.other.inside _ _ c.other.invariant.within.few c.copy_lower.ensures.full c.other.invariant.room c.copy_lower.ensures c.copy_rows.ensures ∙ c.other.view_is
+    same_shown c.other.inside _ _ c.other.invariant.within.few c.copy_lower.ensures.full c.other.invariant.room c.copy_lower.ensures c.copy_rows.ensures
+    ∙ c.other.view_is

@@ -13,4 +13,6 @@ returns c =
     ap (λ (w : ℕ). slice_index_or c.self.inside.gram w (pos 0)) c.place_of.ensures.place
     ∙ gram_placed c.self.inside c.args.row c.args.column (omega arith) (omega arith)
     ∙ ap (λ (s : ShownCone). shown_gram s c.args.row c.args.column) c.self.view_is in
-    read_back _ _ is (gram_within c.args.self.now c.args.row c.args.column (subst IsWithinLimits c.self.view_is c.self.invariant.within) c.requires.row_in_range c.requires.column_in_range)
+    read_back _ _ is
+    (gram_within c.args.self.now c.args.row c.args.column (subst IsWithinLimits c.self.view_is c.self.invariant.within) c.requires.row_in_range
+    c.requires.column_in_range)

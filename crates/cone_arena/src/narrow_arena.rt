@@ -1,0 +1,142 @@
+//! A list of narrow cones in one block of memory.
+
+ghost use Rattle.std.specs.Prelude.{◌≡◌, ◌≤◌, ◌<◌, ◌+◌, ◌-◌, [], ◌∷◌, true, false, length, take, IfOk, IsTrue};
+ghost use Rattle.std.specs.Vec.{vec_capacity};
+ghost use Rattle.cone_arena.specs.Arena.{MaySplit, TopFits, IsTopReplaced, IsTopOf, IsDropped};
+ghost use Rattle.cone_arena.specs.SplitRows.{IsSplittableAt, AreRowsSplit, IsTopRowSplit};
+
+use std::alloc::{AllocError, Global};
+use std::marker::Model;
+use unimodular_cone::{ConeRead, NarrowCone};
+
+/// Narrow cones of n generators each, one above the other, in one block of memory with room for two more than a depth.
+///
+/// Contracts see the list of the cones, the top last. No call takes memory but the one that makes it.
+#[derive(Drop)]
+pub struct NarrowArena {
+    n: u8,
+    depth: u8,
+    len: usize,
+    // The cones that count, and above them rows that stood there before and are written over.
+    rows: Vec<NarrowCone>,
+}
+
+impl Model for NarrowArena {
+    ghost use Rattle.cone_arena.specs.Arena.{ShownArena};
+    ghost use Rattle.cone_arena.specs.NarrowRows.{narrow_arena_of, IsNarrowBlock};
+
+    ghost Value = { ShownArena };
+
+    ghost view = { narrow_arena_of };
+
+    ghost invariant = { IsNarrowBlock };
+}
+
+impl NarrowArena {
+    /// A cone alone, with room for depth + 2.
+    pub fn with_root(alloc: Global, depth: u8, root: NarrowCone) -> Result<NarrowArena, AllocError>
+        requires shallow { depth ≤ 200 }
+        ensures size { IfOk result (λ a. a.size ≡ root.size) }
+        ensures depth { IfOk result (λ a. a.depth ≡ depth) }
+        ensures alone { IfOk result (λ a. a.cones ≡ root ∷ []) }
+    {
+        let mut rows = Vec::with_capacity(alloc, usize::from(depth) + 2)?;
+        let n = root.n();
+        rows.push_reserved(root);
+        Ok(NarrowArena {
+            n,
+            depth,
+            len: 1,
+            rows,
+        })
+    }
+
+    /// Replaces the top, whose children fit, by its child 1 on the sides of the generators i and j, which count from 1, and
+    /// puts its child 0 above, where both are narrow. Answers whether they are; where not, the list is as before.
+    #[inline(always)]
+    pub fn split_fitting(&mut self, i: u8, j: u8) -> bool
+        requires can { MaySplit self.old i j }
+        requires fits { TopFits self.old i j }
+        ensures made { IsTrue result → IsTopReplaced self.old i j self.new }
+        ensures kept { result ≡ false → self.new ≡ self.old }
+    {
+        if !split_in(&mut self.rows, self.len - 1, i, j) {
+            return false;
+        }
+        self.len += 1;
+        true
+    }
+
+    /// Takes the top away.
+    #[inline(always)]
+    pub fn drop_top(&mut self)
+        requires { 0 < length self.old.cones }
+        ensures { IsDropped self.old self.new }
+    {
+        self.len -= 1;
+    }
+
+    /// How many cones there are.
+    #[inline(always)]
+    pub fn len(&self) -> usize
+        ensures { result ≡ length self.now.cones }
+    {
+        self.len
+    }
+
+    /// The last cone, where it stands.
+    #[inline(always)]
+    pub fn top(&self) -> &NarrowCone
+        requires { 0 < length self.now.cones }
+        ensures top { IsTopOf self.now result.now }
+        ensures size { result.now.size ≡ self.now.size }
+    {
+        &self.rows[self.len - 1]
+    }
+}
+
+/// Splits the cone of a row, where both children are narrow: it becomes its child 1, and the row above, whatever is in it, becomes
+/// its child 0. Answers whether they are; where not, the rows up to that one are as before.
+#[inline(always)]
+fn split_in(rows: &mut Vec<NarrowCone>, top: usize, i: u8, j: u8) -> bool
+    requires inside { top < length rows.old.items }
+    requires above { top + 1 < vec_capacity rows.old }
+    requires splits { IsSplittableAt rows.old.items top i j }
+    ensures split { IsTrue result → IsTopRowSplit rows.old.items top i j rows.new.items }
+    ensures kept { result ≡ false → take (top + 1) rows.new.items ≡ take (top + 1) rows.old.items }
+    ensures counted { top + 1 < length rows.new.items }
+    ensures capacity { vec_capacity rows.new ≡ vec_capacity rows.old }
+{
+    fill_above(rows, top);
+    split_rows(rows, top, i, j)
+}
+
+/// Puts a cone, whichever, into the row above, if there is none.
+#[inline(always)]
+fn fill_above(rows: &mut Vec<NarrowCone>, top: usize)
+    requires inside { top < length rows.old.items }
+    requires above { top + 1 < vec_capacity rows.old }
+    ensures filled { top + 1 < length rows.new.items }
+    ensures same { take (top + 1) rows.new.items ≡ take (top + 1) rows.old.items }
+    ensures capacity { vec_capacity rows.new ≡ vec_capacity rows.old }
+{
+    if rows.len() > top + 1 {
+        return;
+    }
+    let cone = rows[top].copy();
+    rows.push_reserved(cone);
+}
+
+/// Splits the cone of a row where it stands, where both children are narrow: it becomes its child 1, and the next row becomes
+/// its child 0. Answers whether they are.
+#[inline(always)]
+fn split_rows(rows: &mut [NarrowCone], top: usize, i: u8, j: u8) -> bool
+    requires inside { top + 1 < length rows.old }
+    requires splits { IsSplittableAt rows.old top i j }
+    ensures split { IsTrue result → AreRowsSplit rows.old top i j rows.new }
+    ensures kept { result ≡ false → take (top + 1) rows.new ≡ take (top + 1) rows.old }
+    ensures count { length rows.new ≡ length rows.old }
+{
+    let (below, above) = rows.split_at_mut(top + 1);
+    below[top].split_into(&mut above[0], i, j)
+}

@@ -1,0 +1,274 @@
+//! Cones whose Gram entries are kept in 64 bits.
+
+ghost use Rattle.std.specs.Prelude.{◌≡◌, ◌≢◌, ◌≤◌, ◌<◌, ◌-◌, ◌^◌, ◌↔◌, [], ◌∷◌, ◌++◌, true, false, length, nat_eq, nat_abs, IsTrue, IfSome, MatchOption};
+ghost use Rattle.exact_forms.specs.Triangles.{triangle};
+ghost use Rattle.symmetric_matrix.specs.Symmetric.{entry};
+ghost use Rattle.unimodular_cone.specs.Copies.{IsCopiedTo};
+ghost use Rattle.unimodular_cone.specs.Mediant.{FitsWith, IsMediantOf, AreProducts};
+ghost use Rattle.unimodular_cone.specs.Narrow.{HasNarrowGram, HasNarrowMediant, IsNarrowMatrix};
+ghost use Rattle.unimodular_cone.specs.Replacement.{IsChildWith, IsRowSet};
+ghost use Rattle.unimodular_cone.specs.Shown.{FitsOnBothSides, shown_gram, IsWithinLimits, IsConeAt, IsChild};
+
+use crate::cone::copy_rows;
+use crate::cone_read::ConeRead;
+use crate::cone_tests::ConeTests;
+use crate::mediant::{children_fit, mediant_coordinates};
+use crate::narrow_bound::{closed, least_value};
+use crate::narrow_numbers::{is_narrow, narrow_lower_of};
+use crate::narrow_pair::pair;
+use crate::narrow_sums::{are_narrow, coordinates_fit, products};
+use crate::path::Path;
+use crate::place::place_of;
+use crate::refusal::WideAt;
+use crate::root_numbers::unit_rows;
+use std::marker::Model;
+use symmetric_matrix::SymInt;
+
+/// A cone whose Gram entries are narrow, of a magnitude of at most 2^59, so that sums of four and slacks are made in 64 bits.
+///
+/// It shows what a `Cone` of the same numbers shows.
+#[derive(Drop)]
+pub struct NarrowCone {
+    n: u8,
+    path: Path,
+    gram: [i64; 36],
+    generators: [[u64; 8]; 8],
+}
+
+impl Model for NarrowCone {
+    ghost use Rattle.unimodular_cone.specs.Shown.{ShownCone};
+
+    ghost Value = { ShownCone };
+
+    ghost use Rattle.unimodular_cone.specs.NarrowFields.{narrow_shown, IsNarrowCone};
+
+    ghost view = { narrow_shown };
+
+    ghost invariant = { IsNarrowCone };
+}
+
+impl NarrowCone {
+    /// Splits the cone on the sides of the generators i and j, which count from 1, where both children are narrow: it becomes
+    /// its child 1, with v_i + v_j in the place of v_j, and `above` becomes its child 0, with v_i + v_j in the place of v_i.
+    /// Answers whether they are; where not, the cone is as before. No entry of either is to be over its limit.
+    ///
+    /// Only the numbers that count are written, and no memory is taken.
+    #[inline(always)]
+    pub fn split_into(&mut self, above: &mut NarrowCone, i: u8, j: u8) -> bool
+        requires first { 1 ≤ i }
+        requires order { i < j }
+        requires last { j ≤ self.old.size }
+        requires room { length self.old.path < 200 }
+        requires fits { FitsOnBothSides self.old (i - 1) (j - 1) }
+        ensures narrow { IsTrue result ↔ HasNarrowMediant self.old (i - 1) (j - 1) }
+        ensures zero { IsTrue result → IsChild self.old (i - 1) (j - 1) false above.new }
+        ensures one { IsTrue result → IsChild self.old (i - 1) (j - 1) true self.new }
+        ensures kept { result ≡ false → self.new ≡ self.old }
+    {
+        let (r, s) = (i - 1, j - 1);
+        match self.n {
+            3 => self.split_sized(above, r, s, 3),
+            4 => self.split_sized(above, r, s, 4),
+            5 => self.split_sized(above, r, s, 5),
+            6 => self.split_sized(above, r, s, 6),
+            n => self.split_sized(above, r, s, n),
+        }
+    }
+
+    /// The same of a cone of n generators, on the sides of r and s, which count from 0.
+    #[inline(always)]
+    fn split_sized(&mut self, above: &mut NarrowCone, r: u8, s: u8, n: u8) -> bool
+        requires within { IsWithinLimits self.old }
+        requires size { n ≡ self.old.size }
+        requires order { r < s }
+        requires last { s < n }
+        requires room { length self.old.path < 200 }
+        requires fits { FitsOnBothSides self.old r s }
+        ensures narrow { IsTrue result ↔ HasNarrowMediant self.old r s }
+        ensures zero { IsTrue result → IsChild self.old r s false above.new }
+        ensures one { IsTrue result → IsChild self.old r s true self.new }
+        ensures kept { result ≡ false → self.new ≡ self.old }
+    {
+        let products = products(self, r, s, n);
+        if !are_narrow(self, &products, r, s, n) {
+            return false;
+        }
+        let coordinates = mediant_coordinates(self, r, s, n);
+        above.become_copy(self);
+        above.put(&coordinates, &products, r, s, 0);
+        self.put(&coordinates, &products, s, r, 1);
+        true
+    }
+
+    /// Becomes the same cone as another.
+    #[inline(always)]
+    fn become_copy(&mut self, other: &NarrowCone)
+        ensures { self.new ≡ other.now }
+    {
+        self.n = other.n;
+        self.path = other.path;
+        copy_lower(&mut self.gram, &other.gram, other.n);
+        copy_rows(&mut self.generators, &other.generators, other.n);
+    }
+
+    /// A Gram entry, in either triangle, at a row and a column that count from 0.
+    #[inline(always)]
+    pub(crate) fn entry(&self, row: u8, column: u8) -> i64
+        requires row_in_range { row < self.now.size }
+        requires column_in_range { column < self.now.size }
+        ensures value { result ≡ shown_gram self.now row column }
+        ensures narrow { nat_abs result ≤ 2 ^ 59 }
+    {
+        let _n = self.n;
+        self.gram[place_of(row, column)]
+    }
+
+    /// How many generators there are.
+    #[inline(always)]
+    pub(crate) fn count(&self) -> u8
+        ensures size { result ≡ self.now.size }
+        ensures fits { IsWithinLimits self.now }
+        ensures narrow { HasNarrowGram self.now }
+    {
+        self.n
+    }
+
+    /// The same cone again.
+    pub fn copy(&self) -> NarrowCone
+        ensures { result ≡ self.now }
+    {
+        NarrowCone {
+            n: self.n,
+            path: self.path,
+            gram: self.gram,
+            generators: self.generators,
+        }
+    }
+
+    /// Puts the mediant of r and s in the place of r, and a digit at the path's end, with the mediant's coordinates and its
+    /// products with the generators. That child is narrow, and no entry of it is over its limit.
+    #[inline(always)]
+    fn put(&mut self, coordinates: &[u64; 8], products: &[i64; 8], r: u8, s: u8, side: u8)
+        requires first { r < self.old.size }
+        requires second { s < self.old.size }
+        requires apart { r ≢ s }
+        requires digit { side < 2 }
+        requires room { length self.old.path < 200 }
+        requires coordinates { IsMediantOf self.old r s coordinates.now }
+        requires products { AreProducts self.old r s products.now }
+        requires narrow { HasNarrowMediant self.old r s }
+        requires fits { FitsWith self.old r s }
+        ensures { IsChildWith self.old r s (self.old.path ++ nat_eq side 1 ∷ []) self.new }
+    {
+        self.path.push(side);
+        self.generators[usize::from(r)] = *coordinates;
+        set_row(&mut self.gram, products, r, self.n);
+        self.gram[place_of(r, r)] += products[usize::from(s)];
+    }
+}
+
+impl ConeRead for NarrowCone {
+    ghost cone = { λ c. c };
+
+    #[inline(always)]
+    fn n(&self) -> u8 {
+        self.n
+    }
+
+    #[inline(always)]
+    fn path(&self) -> Path {
+        self.path
+    }
+
+    #[inline(always)]
+    fn gram(&self, row: u8, column: u8) -> i128 {
+        i128::from(self.entry(row - 1, column - 1))
+    }
+
+    #[inline(always)]
+    fn coordinate(&self, generator: u8, place: u8) -> u64 {
+        self.generators[usize::from(generator - 1)][usize::from(place - 1)]
+    }
+}
+
+impl ConeTests for NarrowCone {
+    #[inline(always)]
+    fn closed(&self, b: i128) -> bool {
+        closed(self, b)
+    }
+
+    #[inline(always)]
+    fn least_value(&self) -> i128 {
+        i128::from(least_value(self))
+    }
+
+    #[inline(always)]
+    fn pair(&self) -> Option<(u8, u8)> {
+        pair(self)
+    }
+
+    #[inline(always)]
+    fn children_fit(&self, i: u8, j: u8) -> Option<WideAt> {
+        // The Gram entries of both children are within their limits.
+        if coordinates_fit(self, i - 1, j - 1) {
+            return None;
+        }
+        children_fit(self, i, j)
+    }
+}
+
+/// The root's cone: the unit vectors, whose Gram matrix is the matrix itself. None exactly where some entry is not narrow.
+///
+/// It takes no memory.
+pub fn narrow_root(q: &SymInt) -> Option<NarrowCone>
+    ensures made { MatchOption result (¬ IsNarrowMatrix q.now) (IsConeAt q.now.size (entry q.now) []) }
+    ensures fits { IfSome result IsWithinLimits }
+{
+    if !is_narrow(q) {
+        return None;
+    }
+    Some(NarrowCone {
+        n: q.n(),
+        path: Path::root(),
+        gram: narrow_lower_of(q),
+        generators: unit_rows(),
+    })
+}
+
+/// Writes row and column r of a lower triangle of n rows, counted from 0.
+#[inline(always)]
+fn set_row(gram: &mut [i64; 36], row: &[i64; 8], r: u8, n: u8)
+    requires range { r < n }
+    requires few { n ≤ 8 }
+    ensures { IsRowSet n r gram.old row.now gram.new }
+{
+    for k in 0..n {
+        gram[place_of(r, k)] = row[usize::from(k)];
+    }
+}
+
+/// Copies the entries of a lower triangle of n rows.
+#[inline(always)]
+fn copy_lower(into: &mut [i64; 36], from: &[i64; 36], n: u8)
+    requires few { n ≤ 8 }
+    ensures { IsCopiedTo (triangle n) from.now into.new }
+{
+    match n {
+        3 => copy_entries(into, from, 6),
+        4 => copy_entries(into, from, 10),
+        5 => copy_entries(into, from, 15),
+        6 => copy_entries(into, from, 21),
+        _ => copy_entries(into, from, 36),
+    }
+}
+
+/// Copies the first numbers.
+#[inline(always)]
+fn copy_entries(into: &mut [i64; 36], from: &[i64; 36], count: usize)
+    requires few { count ≤ 36 }
+    ensures { IsCopiedTo count from.now into.new }
+{
+    for k in 0..count {
+        into[k] = from[k];
+    }
+}
