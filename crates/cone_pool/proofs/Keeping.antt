@@ -1,15 +1,13 @@
 -- What is kept of the judgements has all that an answer may look at.
-use Rattle.std.proofs.Common.{◌≡◌, true, ℕ, ◌≤◌, ℤ, ◌<ℤ◌, ◌⊎◌, List, [], ◌∷◌, ◌++◌, sym, ap, ap₂, ◌∙◌, subst, inl, inr}
+use Rattle.std.proofs.Common.{◌≡◌, true, ℕ, ◌≤◌, ◌⊎◌, List, [], ◌∷◌, ◌++◌, sym, ap, ap₂, ◌∙◌, subst, inl, inr}
 use Rattle.std.specs.List.{Contains}
 use Rattle.std.proofs.lemmas.List.Elements.{Contains-push, Contains-append_left, Contains-append_right, Contains-append_cases, Contains-push_cases}
 use Rattle.exact_forms.proofs.Lists.{nothing_in}
-use Rattle.commutative_ring.proofs.SmallCases.{less_self_ℤ}
 use Rattle.unimodular_cone.specs.declared.Mode.{Mode}
-use Rattle.unimodular_cone.specs.declared.Mode.TheVariants.{Least}
 use Rattle.unimodular_cone.specs.Cones.{Matrix}
 use Rattle.search_core.specs.declared.Judged.{Judged}
-use Rattle.search_core.specs.Fair.{bound_under, IsLowFate, IsEndFate, IsIrrelevant, IsKeptOrIrrelevant, IsFair, IsFairPart}
-use Rattle.search_core.proofs.Irrelevant.{irrelevant_lower}
+use Rattle.search_core.specs.Fair.{IsIrrelevant, IsKeptOrIrrelevant, IsFair, IsFairPart}
+use Rattle.search_core.proofs.Irrelevant.{irrelevant_lower, all_relevant}
 use Rattle.cone_pool.specs.Keeping.{Judgements, AreNone, IsSameList, IsNoted, IsAppended, KeepsRelevant}
 
 module _ (m : Mode) where
@@ -95,31 +93,9 @@ module _ (m : Mode) where
   part_at_end n q d final word js low h fair = record {
     all = js.items;
     fair = fair;
-    relevant = record {
-      within = h.within;
-      low = λ j there is. by_low j is (rest j there);
-      ends = λ j there is. by_end j is (rest j there);
-      attaining = λ mode large j there least. by_least j mode large least (rest j there);
-    };
+    relevant = all_relevant m n q d final js.items js.kept fair h.within (λ j there. now j (h.rest j there));
   }
     where
       now : (j : Judged) → (Contains js.kept j ⊎ IsIrrelevant m word j) → Contains js.kept j ⊎ IsIrrelevant m final j
       now j (inl c) = inl c
       now j (inr u) = inr (irrelevant_lower m word final j low u)
-
-      rest : (j : Judged) → Contains js.items j → Contains js.kept j ⊎ IsIrrelevant m final j
-      rest j there = now j (h.rest j there)
-
-      by_low : (j : Judged) → IsLowFate j.fate → (Contains js.kept j ⊎ IsIrrelevant m final j) → Contains js.kept j
-      by_low j is (inl c) = c
-      by_low j is (inr u) = absurd (u.not_low is)
-
-      by_end : (j : Judged) → IsEndFate j.fate → (Contains js.kept j ⊎ IsIrrelevant m final j) → Contains js.kept j
-      by_end j is (inl c) = c
-      by_end j is (inr u) = absurd (u.no_end is)
-
-      by_least : (j : Judged) → m ≡ Least → 256 ≤ final → j.least ≡ bound_under Least final → (Contains js.kept j ⊎ IsIrrelevant m final j)
-          → Contains js.kept j
-      by_least j mode large least (inl c) = c
-      by_least j mode large least (inr u) = absurd
-          (less_self_ℤ (bound_under Least final) (subst (λ (z : ℤ). bound_under Least final <ℤ z) least (u.above mode large)))

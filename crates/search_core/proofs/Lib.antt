@@ -1,5 +1,6 @@
-pub mod Irrelevant
 pub mod LeastValues
+pub mod SameGenerators
+pub mod Irrelevant
 pub mod PathFates
 pub mod Settle
 pub mod Fairness

@@ -14,6 +14,7 @@ use Rattle.unimodular_cone.specs.Answer.{SearchAnswer, IsSearchAnswer, BoundFits
 use Rattle.unimodular_cone.specs.Shown.{ShownCone, shown_gram, shown_generators, IsConeAt}
 use Rattle.unimodular_cone.proofs.Unique.{both_le}
 use Rattle.search_core.specs.Fair.{Fate, Closed, Split, Low, Dropped, AtLimit, Wide, Judged, word_of, bound_under, least_value, IsEndFate, IsFairPart}
+use Rattle.search_core.specs.Fair.{HasGenerator}
 use Rattle.search_core.proofs.PathFates.{IsPathFate}
 use Rattle.search_core.proofs.ShownFates.{judged_fate}
 use Rattle.search_core.specs.Scans.{IsLowOf, IsOpenEnd, IsFirstWith, AreInTree}
@@ -21,6 +22,7 @@ use Rattle.search_core.specs.Attaining.{ListsGenerators}
 use Rattle.search_core.specs.declared.settling.End.{End}
 use Rattle.search_core.specs.Ends.{IsEndOf, NamesEnd}
 use Rattle.search_core.proofs.LeastValues.{least_value_le, least_value_attained}
+use Rattle.search_core.proofs.SameGenerators.{same_value}
 use Rattle.search_core.proofs.Settle.{IsLimitFate}
 use Rattle.search_core.proofs.Fairness.{NoOpenBefore, judged_in_tree, limit_is_open}
 use Rattle.search_core.proofs.Answers.{some_low, answers_low, answers_depth, answers_wide, answers_found, answers_copositive}
@@ -169,19 +171,29 @@ found_answer {n} {q} {d} {part} {final} g large none vectors lists =
         (value n q (cone_at n q j.path) k ≡ bound_under Least final)
     each x c = let r = lists.each x c in (r.0, r.1, g.fair_part.relevant.within r.0 r.2, r.3, r.4, r.5)
 
-    all : (j : Judged) (k : ℕ) (x : List ℕ) → Contains g.fair_part.all j → k < n → IsListOf n x (cone_at n q j.path k)
-        → value n q (cone_at n q j.path) k ≡ bound_under Least final → Contains vectors x
-    all j k x c l vector val =
+    -- a judgement's least value is at least the final bound, so it is the value of a generator that attains it
+    least_is : (j : Judged) (k : ℕ) → Contains g.fair_part.all j → k < n → value n q (cone_at n q j.path) k ≡ bound_under Least final
+        → j.least ≡ bound_under Least final
+    least_is j k c l val =
         let least : j.least ≡ least_value n q (cone_at n q j.path) = (g.fair_part.fair.judgements j c).least in
         let below : least_value n q (cone_at n q j.path) ≤ℤ value n q (cone_at n q j.path) k = least_value_le n q (cone_at n q j.path) k l in
         let r = least_value_attained n q (cone_at n q j.path) g.some in
         let bound = final_bound_Least n q d g.fair_part.all final g.symmetric g.fair_part.fair g.small large g.some g.narrow in
         let above : bound_under Least final ≤ℤ value n q (cone_at n q j.path) r.0 =
         bound.least j.path r.0 (judged_in_tree Least n q d g.fair_part.all final g.symmetric g.fair_part.fair j c) r.1 in
-        let e : j.least ≡ bound_under Least final = least
+        least
         ∙ both_le _ _ (subst (λ (z : ℤ). least_value n q (cone_at n q j.path) ≤ℤ z) val below)
-        (subst (λ (z : ℤ). bound_under Least final ≤ℤ z) r.2 above) in
-        lists.all j k x (g.fair_part.relevant.attaining refl large j c e) e l vector val
+        (subst (λ (z : ℤ). bound_under Least final ≤ℤ z) r.2 above)
+
+    all : (j : Judged) (k : ℕ) (x : List ℕ) → Contains g.fair_part.all j → k < n → IsListOf n x (cone_at n q j.path k)
+        → value n q (cone_at n q j.path) k ≡ bound_under Least final → Contains vectors x
+    all j k x c l vector val = by (g.fair_part.relevant.attaining refl large j k c l val)
+      where
+        by : HasGenerator n q part j.path k → Contains vectors x
+        by (p, i, there, same) =
+            let attains : value n q (cone_at n q p.path) i ≡ bound_under Least final = same_value n q j.path p.path k i same ∙ val in
+            lists.all p i x there (least_is p i (g.fair_part.relevant.within p there) same.range attains) same.range
+            (record { size = vector.size; same = λ t lt. vector.same t lt ∙ sym (same.same t lt) }) attains
 
 -- ---- the end that is named
 pub named_end : {m : Mode} {n : ℕ} {q : Matrix} {d : ℕ} {part : List Judged} {final : ℕ} → IsSettled m n q d part final → 256 ≤ final

@@ -9,17 +9,20 @@
 --     IsOnceEach judged          no path is judged twice
 --     IsFinalWord                the least of the start word and the codes of the judged cones
 --     IsFair m n q d list final  one judgement for the root and for each child of a Split, and for no other path
---     HasAllRelevant             a part of a list has the judgements that an answer looks at
+--     IsSameGenerator n q p k o l  generator l of the cone at o is generator k of the cone at p
+--     HasGenerator n q list p k  a judgement of the list has generator k of the cone at p
+--     HasAllRelevant             a part of a list has what an answer looks at: the judgements that are low or an end, and in
+--                                Least each generator whose value is the final bound
 --     IsRelevantFate m word f z  an answer may look at a judgement of fate f and least value z: it is low, an end, or z is at
 --                                most the word's bound (Least)
 --     IsIrrelevantFate m word f z   no answer looks at such a judgement, where the final word is at most this
 --     IsIrrelevant m word j      no answer looks at j, where the final word is at most this
 --     IsKeptOrIrrelevant         j is kept, or no answer looks at it
---     IsFairPart                 the judgements of a fair list that an answer looks at, and maybe others of it
-use Rattle.std.specs.Prelude.{ℕ, ℤ, pos, ◌<ℤ◌, ◌≤ℤ◌, ◌<◌, ◌≤◌, ◌≡◌, ◌≢◌, ◌⊎◌, Bool, List, [], ◌∷◌, ◌++◌}
+--     IsFairPart                 a part of a fair list that has what an answer looks at, and maybe more
+use Rattle.std.specs.Prelude.{ℕ, ℤ, ◌<ℤ◌, ◌≤ℤ◌, ◌<◌, ◌≤◌, ◌≡◌, ◌≢◌, ◌⊎◌, Bool, List, [], ◌∷◌, ◌++◌}
 use Rattle.std.specs.List.{Contains}
 use Rattle.unimodular_cone.specs.Paths.{Path}
-use Rattle.unimodular_cone.specs.Cones.{Matrix, cone_at}
+use Rattle.unimodular_cone.specs.Cones.{Matrix, value, cone_at}
 use Rattle.unimodular_cone.specs.Shown.{ShownCone, IsConeAt}
 use Rattle.unimodular_cone.specs.declared.Mode.{Mode}
 use Rattle.unimodular_cone.specs.declared.Mode.TheVariants.{Least}
@@ -108,14 +111,23 @@ pub record IsFair (m : Mode) (n : ℕ) (q : Matrix) (d : ℕ) (judged : List Jud
   pub judgements : (j : Judged) → Contains judged j → IsJudgement m n q d final j
   pub final_word : IsFinalWord m n q judged final
 
--- part has the judgements of all that an answer looks at: the low ones, the ends, and in Least those whose least value is
--- the final bound
-pub record HasAllRelevant (m : Mode) (final : ℕ) (all part : List Judged) : Type 0 where
+-- generator l of the cone at other is generator k of the cone at p
+pub record IsSameGenerator (n : ℕ) (q : Matrix) (p : Path) (k : ℕ) (other : Path) (l : ℕ) : Type 0 where
+  pub range : l < n
+  pub same : (i : ℕ) → i < n → cone_at n q other l i ≡ cone_at n q p k i
+
+-- a judgement of the list has generator k of the cone at path
+abbrev pub HasGenerator : ℕ → Matrix → List Judged → Path → ℕ → Type 0
+HasGenerator n q judged path k = (j : Judged) × (l : ℕ) × Contains judged j × IsSameGenerator n q path k j.path l
+
+-- part has what an answer looks at: the judgements that are low or an end, and in Least each generator whose value is the
+-- final bound
+pub record HasAllRelevant (m : Mode) (n : ℕ) (q : Matrix) (final : ℕ) (all part : List Judged) : Type 0 where
   pub within : (j : Judged) → Contains part j → Contains all j
   pub low : (j : Judged) → Contains all j → IsLowFate j.fate → Contains part j
   pub ends : (j : Judged) → Contains all j → IsEndFate j.fate → Contains part j
-  pub attaining : m ≡ Least → 256 ≤ final → (j : Judged) → Contains all j → j.least ≡ bound_under Least final
-      → Contains part j
+  pub attaining : m ≡ Least → 256 ≤ final → (j : Judged) (k : ℕ) → Contains all j → k < n
+      → value n q (cone_at n q j.path) k ≡ bound_under Least final → HasGenerator n q part j.path k
 
 -- an answer may look at a judgement of this fate and this least value, which was made under this word
 abbrev pub IsRelevantFate : Mode → ℕ → Fate → ℤ → Type 0
@@ -138,4 +150,4 @@ IsKeptOrIrrelevant m word j old new = (new ≡ old ++ j ∷ []) ⊎ ((new ≡ ol
 pub record IsFairPart (m : Mode) (n : ℕ) (q : Matrix) (d : ℕ) (part : List Judged) (final : ℕ) : Type 0 where
   pub all : List Judged
   pub fair : IsFair m n q d all final
-  pub relevant : HasAllRelevant m final all part
+  pub relevant : HasAllRelevant m n q final all part

@@ -1,16 +1,12 @@
 //! The fate of a cone under a word.
 
-ghost use Rattle.std.specs.Prelude.{◌≡◌, ◌≤◌, ◌<◌, ◌-◌, ℕ, suc, min, length, Some, MatchOption, OnOk, OnErr};
+ghost use Rattle.std.specs.Prelude.{◌≡◌, ◌≤◌, ◌<◌, ◌-◌, ℕ, suc, min, length, Some, MatchOption};
 ghost use Rattle.unimodular_cone.specs.Answer.{IsLeastDiagonal};
 ghost use Rattle.unimodular_cone.specs.Shown.{shown_gram, IsWithinLimits};
 ghost use Rattle.search_core.specs.Judging.{shown_code, shown_least, IsLowShown, IsFirstLowShown, IsUndecidedShown, IsShownFate, IsJudgementOf};
-ghost use Rattle.std.specs.Bool.{MatchBool};
-ghost use Rattle.search_core.specs.Fair.{IsRelevantFate, IsIrrelevantFate};
-ghost use Rattle.search_core.specs.Kept.{IsConeKept};
 
 use crate::fate::{Fate, Judged};
 use crate::words::{bound_under, code_at, is_low_value};
-use std::alloc::AllocError;
 use unimodular_cone::{ByReading, ConeRead, ConeTests, Mode, least_value};
 
 /// The first low generator of a cone, counted from 1.
@@ -138,47 +134,4 @@ pub fn lowering_fate<C: ConeTests>(mode: Mode, c: &C, limit: u8, word: &mut u64)
     let lower = (*word).min(code_at(mode, c.path().len(), least));
     *word = lower;
     fate_of(mode, c, limit, lower, least)
-}
-
-/// Whether an answer may look at a judgement of this fate and this least value that was made under this word: it is low, it
-/// is an end of the tree, or its least value is at most the word's bound.
-#[inline(always)]
-fn is_relevant(mode: Mode, fate: &Fate, least: i128, word: u64) -> bool
-    ensures { MatchBool result (IsRelevantFate mode word fate.now least) (IsIrrelevantFate mode word fate.now least) }
-{
-    match fate {
-        Fate::Low { .. } | Fate::AtLimit { .. } | Fate::Wide { .. } => true,
-        Fate::Closed { .. } | Fate::Split { .. } | Fate::Dropped { .. } => match mode {
-            Mode::Sign => false,
-            Mode::Least => word >= 256 && least <= i128::from(bound_under(mode, word)),
-        },
-    }
-}
-
-/// Keeps the judgement of a cone of this fate, made under this word, if an answer may look at it. After a refusal the list is
-/// as before.
-///
-/// The judgement is made only where it is kept.
-#[inline(always)]
-pub fn keep_fate<C: ConeTests>(
-    judged: &mut Vec<Judged>,
-    mode: Mode,
-    c: &C,
-    fate: &Fate,
-    word: u64,
-) -> Result<(), AllocError>
-    ensures kept { OnOk result (IsConeKept mode word (C.cone c.now) fate.now judged.old.items judged.new.items) }
-    ensures few { OnOk result ((¬ IsRelevantFate mode word fate.now (shown_least (C.cone c.now)))
-        → judged.new.items ≡ judged.old.items) }
-    ensures err { OnErr result (judged.new.items ≡ judged.old.items) }
-{
-    let least = c.least_value();
-    if is_relevant(mode, fate, least, word) {
-        judged.push(Judged {
-            path: c.path(),
-            fate: *fate,
-            least,
-        })?;
-    }
-    Ok(())
 }

@@ -8,6 +8,7 @@ mod event;
 mod fate;
 mod hand;
 mod judging;
+mod keeping;
 mod law;
 mod machine;
 #[cfg(test)]
@@ -23,7 +24,8 @@ mod words;
 pub use answer::{Least, Sign};
 pub use event::{Event, Stepped};
 pub use fate::{Fate, Judged};
-pub use judging::{judge, judgement, keep_fate, lowering_fate};
+pub use judging::{judge, judgement, lowering_fate};
+pub use keeping::{NewGenerators, keep_fate};
 pub use law::{
     at_most_one_fate, code_is_of_the_path, every_run_is_fair, fate_is_of_the_path, runs_are_fair,
 };

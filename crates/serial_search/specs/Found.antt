@@ -1,6 +1,7 @@
 -- What a search found.
 --
---     IsFairSearch m q d found   the judgements are of a fair search of Q to depth d, all that is relevant, with its final word
+--     IsFairSearch m q d found   the judgements are of a fair search of Q to depth d, with its final word, and have what an answer
+--                                looks at
 use Rattle.std.specs.Prelude.{ℕ}
 use Rattle.symmetric_matrix.specs.Symmetric.{Symmetric, entry}
 use Rattle.unimodular_cone.specs.declared.Mode.{Mode}

@@ -9,7 +9,7 @@ ghost use Rattle.serial_search.specs.Turns.{MayTurn, IsTurnOf, IsRootAlone};
 
 use crate::search::Judgements;
 use cone_arena::NarrowArena;
-use search_core::{Fate, keep_fate, lowering_fate, start_word};
+use search_core::{Fate, NewGenerators, keep_fate, lowering_fate, start_word};
 use std::alloc::{AllocError, Global};
 use symmetric_matrix::SymInt;
 use unimodular_cone::{Mode, narrow_root};
@@ -47,13 +47,15 @@ fn search_over(
     let _n = q.n();
     let mut judged = Vec::new(alloc);
     let mut word = start_word(mode, q);
+    let mut fresh = NewGenerators::Each;
     while arena.len() > 0 {
         let cone = arena.top();
         let fate = lowering_fate(mode, cone, limit, &mut word);
-        keep_fate(&mut judged, mode, cone, &fate, word)?;
+        keep_fate(&mut judged, mode, cone, limit, fresh, &fate, word)?;
         if !turn(arena, &fate) {
             return Ok(None);
         }
+        fresh = NewGenerators::after(&fate);
     }
     Ok(Some(Judgements {
         judged,

@@ -8,12 +8,12 @@ ghost use Rattle.search_core.specs.Fair.{IsFairPart};
 ghost use Rattle.serial_search.specs.Turns.{MayTurn, IsTurnOf, IsRootAlone};
 
 use cone_arena::ConeArena;
-use search_core::{Fate, Judged, keep_fate, lowering_fate, start_word};
+use search_core::{Fate, Judged, NewGenerators, keep_fate, lowering_fate, start_word};
 use std::alloc::{AllocError, Global};
 use symmetric_matrix::SymInt;
 use unimodular_cone::Mode;
 
-/// What was judged, of all that is relevant, and the final word.
+/// What was judged, as far as an answer looks at it, and the final word.
 #[derive(Drop)]
 pub struct Judgements {
     /// The judgements.
@@ -53,11 +53,13 @@ pub fn search(
     let _n = q.n();
     let mut judged = Vec::new(alloc);
     let mut word = start_word(mode, q);
+    let mut fresh = NewGenerators::Each;
     while arena.len() > 0 {
         let cone = arena.top();
         let fate = lowering_fate(mode, &cone, limit, &mut word);
-        keep_fate(&mut judged, mode, &cone, &fate, word)?;
+        keep_fate(&mut judged, mode, &cone, limit, fresh, &fate, word)?;
         turn(arena, &fate);
+        fresh = NewGenerators::after(&fate);
     }
     Ok(Judgements {
         judged,

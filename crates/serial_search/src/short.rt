@@ -10,7 +10,8 @@ ghost use Rattle.serial_search.specs.Turns.{IsRootAlone};
 use crate::search::{Judgements, turn};
 use cone_arena::ConeArena;
 use search_core::{
-    Least, Sign, keep_fate, lowering_fate, settle_least_part, settle_sign_part, start_word,
+    Least, NewGenerators, Sign, keep_fate, lowering_fate, settle_least_part, settle_sign_part,
+    start_word,
 };
 use std::alloc::{AllocError, Global};
 use symmetric_matrix::SymInt;
@@ -36,6 +37,7 @@ fn search_in_turns(
     let _n = q.n();
     let mut judged = Vec::new(alloc);
     let mut word = start_word(mode, q);
+    let mut fresh = NewGenerators::Each;
     for _ in 0..turns {
         if arena.len() == 0 {
             return Ok(Some(Judgements {
@@ -45,8 +47,9 @@ fn search_in_turns(
         }
         let cone = arena.top();
         let fate = lowering_fate(mode, &cone, limit, &mut word);
-        keep_fate(&mut judged, mode, &cone, &fate, word)?;
+        keep_fate(&mut judged, mode, &cone, limit, fresh, &fate, word)?;
         turn(arena, &fate);
+        fresh = NewGenerators::after(&fate);
     }
     Ok(None)
 }

@@ -3,8 +3,10 @@
 ghost use Rattle.std.specs.Prelude.{◌≡◌, ◌≤◌, ◌^◌, nat_abs};
 
 use crate::SerialSearcher;
+use crate::narrow_search::search_narrow;
 use crate::plain::{plain_least, plain_sign};
-use search_core::{Least, Searcher, Sign};
+use crate::searcher::bound_wide;
+use search_core::{Least, Mode, Searcher, Sign};
 use std::alloc::Global;
 use std::process::Abort;
 use std::test::Fail;
@@ -132,6 +134,31 @@ fn least_values(rt: HostRuntime) -> Result<(), Fail> {
     let small = two(alloc, 2, -3, 6)?;
     assert_least_depth(&rt, &searcher.least(&small, 1), &[1]);
     assert_found(&rt, &searcher.least(&small, 2), 2, &[1, 0, 1, 1, 2, 1]);
+    Ok(())
+}
+
+/// How many judgements a search for the least value over narrow cones keeps. None where there is no such search.
+fn kept_judgements(alloc: Global, q: &SymInt, limit: u8) -> Result<Option<usize>, Fail>
+    requires { limit ≤ 200 }
+{
+    match bound_wide(q) {
+        Some(_) => Ok(None),
+        None => match search_narrow(alloc, Mode::Least, q, limit)? {
+            Some(found) => Ok(Some(found.judged.len())),
+            None => Ok(None),
+        },
+    }
+}
+
+// Seven cones are judged, and the least value of each is at most the bound at its turn. The root is kept, and the three children
+// 0, in which (1, 1), (2, 1) and (3, 2) are new.
+#[test]
+fn mediants_attain_the_minimum(rt: HostRuntime) -> Result<(), Fail> {
+    let alloc = rt.alloc();
+    let mut searcher = SerialSearcher::new(alloc);
+    let q = two(alloc, 5, -8, 13)?;
+    assert_found(&rt, &searcher.least(&q, 60), 1, &[2, 1, 3, 2]);
+    assert_eq!(&rt; kept_judgements(alloc, &q, 60)?, Some(4));
     Ok(())
 }
 

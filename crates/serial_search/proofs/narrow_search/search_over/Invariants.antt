@@ -6,7 +6,7 @@ use Rattle.serial_search.proofs.narrow_search.search_over.Given as goal
 
 abbrev pub invariant-loop-mode : goal.invariant-loop-mode
 invariant-loop-mode l = record {
-  searching : IsSearching l.mode l.q.size (entry l.q) l.limit l.arena.cones l.word l.judged.items;
+  searching : IsSearching l.mode l.q.size (entry l.q) l.limit l.arena.cones l.word l.fresh l.judged.items;
   deep : AreDeep 0 l.arena.cones;
   room : l.limit ≤ l.arena.depth;
 }

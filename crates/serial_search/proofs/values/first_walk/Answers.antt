@@ -6,8 +6,8 @@ use Rattle.unimodular_cone.specs.Shown.{ShownCone}
 use Rattle.search_core.specs.Judging.{shown_code, IsShownFate}
 use Rattle.search_core.proofs.Mirrors.{entry_symmetric}
 use Rattle.serial_search.specs.Turns.{IsOnTop, AreStacked}
-use Rattle.serial_search.proofs.Tops.{AreDeep, may_turn, top_there, deep_turned}
-use Rattle.serial_search.proofs.Stacks.{no_items}
+use Rattle.serial_search.proofs.Tops.{AreDeep, may_turn, deep_turned}
+use Rattle.serial_search.proofs.Stacks.{no_items, top_within}
 use Rattle.serial_search.proofs.Lows.{falls_from_root, falls_on, falls_further, falls_to_low, falls_to_word}
 use Rattle.serial_search.proofs.values.first_walk.Goals as goal
 
@@ -23,8 +23,7 @@ loop-arena-init c = record {
 
 pub lowering_fate-fate-requires-clause-within : goal.lowering_fate-fate-requires-clause-within
 lowering_fate-fate-requires-clause-within c =
-    (c.loop-arena.invariant.falling.search.search.cones c.top-cone.result.cone.now
-    (top_there c.loop-arena.arena.cones c.top-cone.ensures.top.0 c.top-cone.result.cone.now c.top-cone.ensures.top.1)).1
+    top_within _ _ _ _ _ c.top-cone.ensures.top.0 _ _ _ _ c.loop-arena.invariant.falling.search.search c.top-cone.ensures.top.1
 
 pub turn-requires-clause-may : goal.turn-requires-clause-may
 turn-requires-clause-may c =
@@ -32,7 +31,7 @@ turn-requires-clause-may c =
     let top : IsOnTop c.top-cone.result.cone.now rest c.loop-arena.arena.cones = c.top-cone.ensures.top.1 in
     may_turn Mode.Least c.loop-arena.arena rest c.top-cone.result.cone.now c.args.limit c.lowering_fate-fate.new.word c.lowering_fate-fate.result top
     c.top-cone.ensures.size c.loop-arena.invariant.deep c.loop-arena.invariant.room
-    (c.loop-arena.invariant.falling.search.search.cones c.top-cone.result.cone.now (top_there c.loop-arena.arena.cones rest c.top-cone.result.cone.now top)).1
+    (top_within _ _ _ _ _ rest _ _ _ _ c.loop-arena.invariant.falling.search.search top)
     c.lowering_fate-fate.ensures.fate
 
 fated : (c : goal.After-turn) → IsShownFate Mode.Least c.top-cone.result.cone.now c.args.limit
