@@ -1,14 +1,14 @@
 -- Each step keeps the rule.
 use Rattle.std.proofs.Common.{◌≡◌, ◌≢◌, ℕ, zero, suc, ◌+◌, ◌≤◌, min, cond, Bool, true, false, true≢false, List, [], ◌∷◌, ◌++◌, slice_set, slice_index, refl}
-use Rattle.std.proofs.Common.{sym, ap, ◌∙◌, subst, ⊎_elim, le_of_eq, le_trans, arith}
+use Rattle.std.proofs.Common.{sym, ap, ◌∙◌, subst, le_of_eq, le_trans, arith}
 use mathlib.Core.Option.{some, some-injective, some-ne-none}
 use lib.ListN.{get_elem?}
 use Rattle.atomic_table.specs.Table.{State, keeps, Allows, Splits, Joins, Final, Seen}
-use Rattle.atomic_table.proofs.Lists.{at_set}
 use Rattle.bound_word.specs.Falling.{View, greatest_word, opening_view, another_view, away_view, with_one_more, joined_view, least_given, bound, first_views}
 use Rattle.bound_word.specs.Falling.{present, IsFallingWord, IsWordOffer}
 use Rattle.bound_word.proofs.Each.{each_set, each_snoc, each_one}
-use Rattle.bound_word.proofs.Views.{least_top, least_at, least_set, least_same, least_snoc, least_gone, least_alone, total_set, total_snoc, total_two}
+use Rattle.bound_word.proofs.Views.{least_top, least_at, least_set, least_same, least_snoc, least_gone, least_alone}
+use Rattle.bound_word.proofs.Totals.{total_set, total_snoc, total_two, still_there, first_set}
 
 abbrev is_first : View → ℕ
 is_first v = cond v.first 1 0
@@ -97,14 +97,6 @@ offers start slots id code v carried here s h homes at fits =
       ),
     )
 
-two_firsts : (vs : List View) (i j : ℕ) (v u : View) → get_elem? vs i ≡ some v → get_elem? vs j ≡ some u → v.first ≡ true → u.first ≡ true → j ≢ i
-    → first_views vs ≡ 1 → ⊥
-two_firsts vs i j v u here there a b apart one =
-    let t = total_two is_first vs j i u v there here apart in
-    let x : is_first v ≡ 1 = ap (λ c. cond c 1 0) a in
-    let y : is_first u ≡ 1 = ap (λ c. cond c 1 0) b in
-    omega arith
-
 pub splits : (start id : ℕ) (v : View) → v.first ≡ true → v.away ≡ false → Splits (Holds start) id v (with_one_more v) (another_view v)
 splits start id v first here s h at =
     let l : View = with_one_more v in
@@ -118,7 +110,7 @@ splits start id v first here s h at =
     let lower : bound start all ≤ bound start s.views = le_of_eq same in
     let Told : View → Type 0 = λ u. bound start all ≤ u.told in
     let Gone : View → Type 0 = λ u. u.away ≡ true → u ≡ away_view in
-    let Out : View → Type 0 = λ u. u.first ≡ true → u.out + 1 ≡ present all in
+    let Alone : View → Type 0 = λ u. u.out + 1 ≡ present all in let Out : View → Type 0 = λ u. u.first ≡ true → Alone u in
     let Before : View → Type 0 = λ u. 1 ≤ u.out_before in
     let mine : Told v = le_trans lower (h.told id v at) in record {
       count = h.count;
@@ -126,10 +118,8 @@ splits start id v first here s h at =
       told = each_snoc Told vs r mine (each_set Told s.views id l mine (λ k u there. le_trans lower (h.told k u there)));
       gone = each_snoc Gone vs r (λ e. absurd (true≢false (sym e))) (each_set Gone s.views id l (λ e. absurd (true≢false (sym e ∙ here))) h.gone);
       one_first = firsts_same ∙ h.one_first;
-      out = each_snoc Out vs r (λ e. absurd (true≢false (sym e))) (λ j u there. ⊎_elim
-          (λ (t : (j ≡ id) × (l ≡ u)). subst Out t.1 (λ e. (let a = h.out id v at first in omega arith)))
-          (λ (t : (j ≢ id) × (get_elem? s.views j ≡ some u)). λ e. absurd (two_firsts s.views id j v u at t.1 first e t.0 h.one_first))
-          (at_set s.views id j l u there));
+      out = each_snoc Out vs r (λ e. absurd (true≢false (sym e)))
+          (first_set (λ (u : View). u.first) Alone s.views id v l at first h.one_first (let a = h.out id v at first in omega arith));
       out_before = each_snoc Before vs r (omega arith) (each_set Before s.views id l (h.out_before id v at) h.out_before);
     }
 
@@ -144,9 +134,7 @@ joins start id other v w first here second there s h at apart at' =
     let both : View = joined_view v w in
     let vs : List View = slice_set s.views id both in
     let all : List View = slice_set vs other away_view in
-    let was : get_elem? s.views other ≡ some w =
-    ⊎_elim (λ (t : (other ≡ id) × (both ≡ w)). absurd (apart t.0)) (λ (t : (other ≢ id) × (get_elem? s.views other ≡ some w)). t.1)
-    (at_set s.views id other both w at') in
+    let was = still_there s.views id other both w apart at' in
     let kept : get_elem? vs id ≡ some both = set_there s.views id v both at in
     let one : is_here v ≡ 1 = ap (λ c. cond c 0 1) here in
     let two : is_here w ≡ 1 = ap (λ c. cond c 0 1) there in
@@ -163,7 +151,7 @@ joins start id other v w first here second there s h at apart at' =
     let lower : bound start all ≤ bound start s.views = le_of_eq same in
     let Told : View → Type 0 = λ u. bound start all ≤ u.told in
     let Gone : View → Type 0 = λ u. u.away ≡ true → u ≡ away_view in
-    let Out : View → Type 0 = λ u. u.first ≡ true → u.out + 1 ≡ present all in
+    let Alone : View → Type 0 = λ u. u.out + 1 ≡ present all in let Out : View → Type 0 = λ u. u.first ≡ true → Alone u in
     let Before : View → Type 0 = λ u. 1 ≤ u.out_before in
     let mine : Told both = (let a = h.told id v at in let b = h.told other w was in omega arith) in
     let gone : Told away_view = (let a = least_top all in omega arith) in record {
@@ -172,10 +160,8 @@ joins start id other v w first here second there s h at apart at' =
       told = each_set Told vs other away_view gone (each_set Told s.views id both mine (λ k u there. le_trans lower (h.told k u there)));
       gone = each_set Gone vs other away_view (λ e. refl) (each_set Gone s.views id both (λ e. absurd (true≢false (sym e ∙ here))) h.gone);
       one_first = firsts_same ∙ h.one_first;
-      out = each_set Out vs other away_view (λ e. absurd (true≢false (sym e))) (λ j u there. ⊎_elim
-          (λ (t : (j ≡ id) × (both ≡ u)). subst Out t.1 (λ e. (let a = h.out id v at first in omega arith)))
-          (λ (t : (j ≢ id) × (get_elem? s.views j ≡ some u)). λ e. absurd (two_firsts s.views id j v u at t.1 first e t.0 h.one_first))
-          (at_set s.views id j both u there));
+      out = each_set Out vs other away_view (λ e. absurd (true≢false (sym e)))
+          (first_set (λ (u : View). u.first) Alone s.views id v both at first h.one_first (let a = h.out id v at first in omega arith));
       out_before = each_set Before vs other away_view (omega arith) (each_set Before s.views id both (let a = h.out id v at first in omega arith) h.out_before);
     }
 

@@ -1,8 +1,8 @@
--- Lists of views: what a change of one does to the least given code and to a total.
+-- Lists of views: what a change of one does to the least given code.
 use Rattle.std.proofs.Common.{◌≡◌, ◌≢◌, ℕ, zero, suc, ◌+◌, ◌≤◌, min, List, [], ◌∷◌, ◌++◌, slice_set, refl, sym, ap, le_refl, arith}
 use mathlib.Core.Option.{some, some-injective, some-ne-none}
 use lib.ListN.{get_elem?}
-use Rattle.bound_word.specs.Falling.{View, greatest_word, least_given, total_of_views}
+use Rattle.bound_word.specs.Falling.{View, greatest_word, least_given}
 use Rattle.bound_word.proofs.Numbers.{suc_is_not_zero, zero_is_not_suc, suc_same}
 
 pub least_top : (vs : List View) → least_given vs ≤ greatest_word
@@ -69,25 +69,3 @@ least_alone (x ∷ xs) (suc k) v at others le =
     let g : x.given ≡ greatest_word = others 0 x refl (λ same. zero_is_not_suc k same) in
     let h : least_given xs ≡ v.given = least_alone xs k v at (λ j u there apart. others (suc j) u there (λ same. apart (suc_same j k same))) le in
     omega arith
-
-module _ (f : View → ℕ) where
-  pub total_set : (vs : List View) (k : ℕ) (v w : View) → get_elem? vs k ≡ some v → total_of_views f (slice_set vs k w) + f v ≡ total_of_views f vs + f w
-  total_set [] k v w at = absurd (some-ne-none v (sym at))
-  total_set (x ∷ xs) zero v w at = let e : f x ≡ f v = ap f (some-injective x v at) in omega arith
-  total_set (x ∷ xs) (suc k) v w at = let h = total_set xs k v w at in omega arith
-
-  pub total_snoc : (vs : List View) (w : View) → total_of_views f (vs ++ w ∷ []) ≡ total_of_views f vs + f w
-  total_snoc [] w = omega arith
-  total_snoc (x ∷ xs) w = let h = total_snoc xs w in omega arith
-
-  pub total_at : (vs : List View) (k : ℕ) (v : View) → get_elem? vs k ≡ some v → f v ≤ total_of_views f vs
-  total_at [] k v at = absurd (some-ne-none v (sym at))
-  total_at (x ∷ xs) zero v at = let e : f x ≡ f v = ap f (some-injective x v at) in omega arith
-  total_at (x ∷ xs) (suc k) v at = let h = total_at xs k v at in omega arith
-
-  pub total_two : (vs : List View) (j k : ℕ) (v u : View) → get_elem? vs j ≡ some v → get_elem? vs k ≡ some u → j ≢ k → f v + f u ≤ total_of_views f vs
-  total_two [] j k v u here there apart = absurd (some-ne-none v (sym here))
-  total_two (x ∷ xs) zero zero v u here there apart = absurd (apart refl)
-  total_two (x ∷ xs) zero (suc k) v u here there apart = let e : f x ≡ f v = ap f (some-injective x v here) in let h = total_at xs k u there in omega arith
-  total_two (x ∷ xs) (suc j) zero v u here there apart = let e : f x ≡ f u = ap f (some-injective x u there) in let h = total_at xs j v here in omega arith
-  total_two (x ∷ xs) (suc j) (suc k) v u here there apart = let h = total_two xs j k v u here there (λ e. apart (ap suc e)) in omega arith

@@ -8,7 +8,6 @@
 --     joined_view v w        v after w was joined into it
 --     least_given views      the least code that a view gave, or top
 --     bound start views      the least of the start and all that was given
---     total_of_views f views  f of each view, added up
 --     first_views views      how many views are first
 --     present views          how many views were not joined away
 --     IsFallingWord start words views
@@ -18,6 +17,7 @@
 use Rattle.std.specs.Prelude.{◌≡◌, ℕ, ◌+◌, ◌-◌, ◌^◌, ◌≤◌, min, true, false, cond, List, [], ◌∷◌}
 use mathlib.Core.Option.{some}
 use lib.ListN.{get_elem?}
+use Rattle.bound_word.specs.Totals.{total_of}
 pub use Rattle.bound_word.specs.declared.rule.View.{View}
 
 abbrev pub greatest_word : ℕ
@@ -61,15 +61,11 @@ least_given (v ∷ vs) = min v.given (least_given vs)
 abbrev pub bound : ℕ → List View → ℕ
 bound start views = min start (least_given views)
 
-abbrev pub total_of_views : (View → ℕ) → List View → ℕ
-total_of_views f [] = 0
-total_of_views f (v ∷ vs) = f v + total_of_views f vs
-
 abbrev pub first_views : List View → ℕ
-first_views views = total_of_views (λ v. cond v.first 1 0) views
+first_views views = total_of (λ (v : View). cond v.first 1 0) views
 
 abbrev pub present : List View → ℕ
-present views = total_of_views (λ v. cond v.away 0 1) views
+present views = total_of (λ (v : View). cond v.away 0 1) views
 
 pub record IsFallingWord (start : ℕ) (words : List ℕ) (views : List View) : Type 0 where
   pub count : ℕ

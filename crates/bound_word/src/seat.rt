@@ -17,7 +17,14 @@ impl Model for BoundSeat {
 
     ghost Value = { Seat };
 
-    ghost view = { λ s. record { table = s.seat.table_id; given = s.given; told = s.told; first = s.seat.me.0.first; out = s.seat.me.0.out } };
+    ghost view = { λ s. record {
+      table = s.seat.table_id;
+      given = s.given;
+      told = s.told;
+      first = s.seat.me.0.first;
+      out = s.seat.me.0.out;
+    } };
 
-    ghost invariant = { λ s. (s.seat.me.1 ≡ []) × (s.seat.me.0.given ≡ s.given) × (s.seat.me.0.told ≡ s.told) × (s.seat.me.0.away ≡ false) × (s.given ≤ greatest_word) };
+    ghost invariant = { λ s. (s.seat.me.1 ≡ []) × (s.seat.me.0.given ≡ s.given) × (s.seat.me.0.told ≡ s.told)
+        × (s.seat.me.0.away ≡ false) × (s.given ≤ greatest_word) };
 }

@@ -1,5 +1,5 @@
 -- Sums of products, step by step.
-use Rattle.std.specs.Prelude.{◌≡◌, ℕ, ◌+◌, ◌<◌, ℤ, pos, ◌+ℤ◌, ◌*ℤ◌, List, [], ◌∷◌, Some, None, Ok, Err}
+use Rattle.std.specs.Prelude.{◌≡◌, ℕ, ◌+◌, ◌<◌, ℤ, pos, ◌+ℤ◌, ◌*ℤ◌, List, [], ◌∷◌, Some, None, Result, Ok, Err}
 use Rattle.std.proofs.Common.{arith, sym, ◌∙◌, ap, ap₂, refl}
 use Rattle.exact_forms.proofs.Sums.{sum_to-zero, sum_to_more, sum_to_same}
 use Rattle.symmetric_matrix.specs.declared.operation.IntOp.{IntOp}
@@ -42,6 +42,10 @@ step_is x y k s a b is_a is_b e =
     ap₂ (λ (u : ℤ) (v : ℤ). mul_op u v ∷ add_op s (u *ℤ v) ∷ []) is_a is_b
     ∙ ap (λ (t : ℤ). mul_op (numbers x k) (numbers y k) ∷ add_op t (numbers x k *ℤ numbers y k) ∷ []) e
 
+-- a product added to a sum, or the operation that doesn't fit
+abbrev product_added : ℤ → ℤ → ℤ → Result ℤ IntOp
+product_added s a b = answer is_owed (mul_op a b ∷ add_op s (a *ℤ b) ∷ []) (s +ℤ a *ℤ b)
+
 pub dot_starts : (x y : ℕ → ℤ) → first_owed is_owed (dot_ops 0 x y) ≡ None
 unfolding dot_ops
 dot_starts x y = loop_start is_owed (dot_step x y)
@@ -49,7 +53,7 @@ dot_starts x y = loop_start is_owed (dot_step x y)
 -- the step at k, with the numbers that were read there
 pub dot_goes_on : (k : ℕ) (x y : List ℤ) (s a b z : ℤ) → a ≡ numbers x k → b ≡ numbers y k → s ≡ dot k (numbers x) (numbers y)
     → first_owed is_owed (dot_ops k (numbers x) (numbers y)) ≡ None
-    → answer is_owed (mul_op a b ∷ add_op s (a *ℤ b) ∷ []) (s +ℤ a *ℤ b) ≡ Ok z
+    → product_added s a b ≡ Ok z
     → (first_owed is_owed (dot_ops (k + 1) (numbers x) (numbers y)) ≡ None) × (z ≡ dot (k + 1) (numbers x) (numbers y))
 unfolding dot_ops
 dot_goes_on k x y s a b z is_a is_b e before here =
@@ -61,7 +65,7 @@ dot_goes_on k x y s a b z is_a is_b e before here =
 
 pub dot_refused : (n k : ℕ) (x y : List ℤ) (s a b : ℤ) (op : IntOp) → k < n → a ≡ numbers x k → b ≡ numbers y k → s ≡ dot k (numbers x) (numbers y)
     → first_owed is_owed (dot_ops k (numbers x) (numbers y)) ≡ None
-    → answer is_owed (mul_op a b ∷ add_op s (a *ℤ b) ∷ []) (s +ℤ a *ℤ b) ≡ Err op → first_owed is_owed (dot_ops n (numbers x) (numbers y)) ≡ Some op
+    → product_added s a b ≡ Err op → first_owed is_owed (dot_ops n (numbers x) (numbers y)) ≡ Some op
 unfolding dot_ops
 dot_refused n k x y s a b op l is_a is_b e before here =
     loop_refused is_owed (dot_step (numbers x) (numbers y)) n k op l before
@@ -72,15 +76,13 @@ dot_refused n k x y s a b op l is_a is_b e before here =
 abbrev pub times_step : ℕ → (ℕ → ℕ → ℤ) → (ℕ → ℤ) → ℕ → List IntOp
 times_step n rows x i = dot_ops n (rows i) x
 
-pub times_same : (n : ℕ) (rows other : ℕ → ℕ → ℤ) (x y : ℕ → ℤ) → ((i j : ℕ) → i < n → j < n → rows i j ≡ other i j) → ((k : ℕ) → k < n → x k ≡ y k)
-    → (i : ℕ) → i < n → rows_times n rows x i ≡ rows_times n other y i
-times_same n rows other x y h k i l = dot_same n (rows i) x (other i) y (λ j m. h i j l m) k
+module _ (n : ℕ) (rows other : ℕ → ℕ → ℤ) (x y : ℕ → ℤ) (h : (i j : ℕ) → i < n → j < n → rows i j ≡ other i j) (k : (k : ℕ) → k < n → x k ≡ y k) where
+  pub times_same : (i : ℕ) → i < n → rows_times n rows x i ≡ rows_times n other y i
+  times_same i l = dot_same n (rows i) x (other i) y (λ j m. h i j l m) k
 
-pub times_ops_same : (n : ℕ) (rows other : ℕ → ℕ → ℤ) (x y : ℕ → ℤ) → ((i j : ℕ) → i < n → j < n → rows i j ≡ other i j) → ((k : ℕ) → k < n → x k ≡ y k)
-    → times_ops n rows x ≡ times_ops n other y
-unfolding times_ops
-times_ops_same n rows other x y h k =
-    steps_same (times_step n rows x) (times_step n other y) n (λ i l. dot_ops_same n (rows i) x (other i) y (λ j m. h i j l m) k)
+  pub times_ops_same : times_ops n rows x ≡ times_ops n other y
+  unfolding times_ops
+  times_ops_same = steps_same (times_step n rows x) (times_step n other y) n (λ i l. dot_ops_same n (rows i) x (other i) y (λ j m. h i j l m) k)
 
 pub times_starts : (n : ℕ) (rows : ℕ → ℕ → ℤ) (x : ℕ → ℤ) → first_owed is_owed (steps (times_step n rows x) 0) ≡ None
 times_starts n rows x = loop_start is_owed (times_step n rows x)

@@ -1,6 +1,6 @@
 -- The Gram matrix and the slacks of a leaf, step by step.
 use Rattle.std.specs.Prelude.{◌≡◌, ℕ, zero, suc, ◌+◌, ◌<◌, ◌⊎◌, Bool, true, false, ◌&&◌, ℤ, pos, neg_ℤ, ◌+ℤ◌, ◌-ℤ◌, ◌*ℤ◌, int_lt, int_le, cond, eqb, List, []}
-use Rattle.std.specs.Prelude.{◌∷◌, Some, None, Ok, Err, length, slice_set}
+use Rattle.std.specs.Prelude.{◌∷◌, Some, None, Result, Ok, Err, length, slice_set}
 use Rattle.std.specs.List.{list_all, range_with_len}
 use Rattle.std.proofs.Common.{arith, sym, ◌∙◌, ap, ap₂, refl, inl, inr, get_or-set_other, get_or-set_same}
 use Rattle.std.proofs.lemmas.Int.{ints}
@@ -86,6 +86,11 @@ slack_starts g a = (
       ≡ pos 0 = sum_to-zero (λ j. cond (eqb j a) (pos 0) (shortfall (g a j))) in omega (arith, ints),
 )
 
+-- what is left after one more shortfall, or the operation that doesn't fit
+abbrev lessened_by : ℤ → ℤ → Bool → Result ℤ IntOp
+lessened_by left beside own =
+    answer is_owed (cond own [] (add_op left (neg_ℤ (shortfall beside)) ∷ [])) (left -ℤ cond own (pos 0) (shortfall beside))
+
 slack_step_is : (g : Matrix) (a c : ℕ) (left beside : ℤ) (own : Bool) → left ≡ lessened g a c → beside ≡ g a c → own ≡ eqb c a
     → cond own [] (add_op left (neg_ℤ (shortfall beside)) ∷ []) ≡ slack_step g a c
 slack_step_is g a c left beside own is_left is_beside is_own =
@@ -94,7 +99,7 @@ slack_step_is g a c left beside own is_left is_beside is_own =
 
 pub slack_goes_on : (g : Matrix) (a c : ℕ) (left beside z : ℤ) (own : Bool) → left ≡ lessened g a c → beside ≡ g a c → own ≡ eqb c a
     → first_owed is_owed (steps (slack_step g a) c) ≡ None
-    → answer is_owed (cond own [] (add_op left (neg_ℤ (shortfall beside)) ∷ [])) (left -ℤ cond own (pos 0) (shortfall beside)) ≡ Ok z
+    → lessened_by left beside own ≡ Ok z
     → (first_owed is_owed (steps (slack_step g a) (c + 1)) ≡ None) × (z ≡ lessened g a (c + 1))
 slack_goes_on g a c left beside z own is_left is_beside is_own before here =
     let r = none_of_ok is_owed (cond own [] (add_op left (neg_ℤ (shortfall beside)) ∷ [])) (left -ℤ cond own (pos 0) (shortfall beside)) z here in
@@ -110,7 +115,7 @@ slack_goes_on g a c left beside z own is_left is_beside is_own before here =
 
 pub slack_refused : (g : Matrix) (n a c : ℕ) (left beside : ℤ) (op : IntOp) (own : Bool) → c < n → left ≡ lessened g a c → beside ≡ g a c → own ≡ eqb c a
     → first_owed is_owed (steps (slack_step g a) c) ≡ None
-    → answer is_owed (cond own [] (add_op left (neg_ℤ (shortfall beside)) ∷ [])) (left -ℤ cond own (pos 0) (shortfall beside)) ≡ Err op
+    → lessened_by left beside own ≡ Err op
     → first_owed is_owed (slack_ops n g a) ≡ Some op
 unfolding slack_ops
 slack_refused g n a c left beside op own l is_left is_beside is_own before here =
@@ -184,7 +189,7 @@ leaf_then n w v g h same =
     ∙ ap (first_owed is_owed) (steps_same (slack_ops n (gram n w v)) (slack_ops n g) n (λ a l. sym (slack_ops_same n g (gram n w v) a same l)))
 
 pub lessened_own : (left beside : ℤ) (own : Bool) → own ≡ true
-    → Ok left ≡ answer is_owed (cond own [] (add_op left (neg_ℤ (shortfall beside)) ∷ [])) (left -ℤ cond own (pos 0) (shortfall beside))
+    → Ok left ≡ lessened_by left beside own
 unfolding answer
 lessened_own left beside own e = rw e (ap (λ (z : ℤ). Ok z) (nothing left))
   where
@@ -193,7 +198,7 @@ lessened_own left beside own e = rw e (ap (λ (z : ℤ). Ok z) (nothing left))
 
 pub lessened_other : (left beside least : ℤ) (own : Bool) → own ≡ false → least ≡ neg_ℤ (shortfall beside)
     → answer is_owed (add_op left least ∷ []) (left +ℤ least)
-    ≡ answer is_owed (cond own [] (add_op left (neg_ℤ (shortfall beside)) ∷ [])) (left -ℤ cond own (pos 0) (shortfall beside))
+    ≡ lessened_by left beside own
 lessened_other left beside least own e is =
     ap (λ (z : ℤ). answer is_owed (add_op left z ∷ []) (left +ℤ z)) is
     ∙ ap (λ (z : ℤ). answer is_owed (add_op left (neg_ℤ (shortfall beside)) ∷ []) z) (less_is_plus left (shortfall beside))

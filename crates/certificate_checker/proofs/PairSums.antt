@@ -87,12 +87,21 @@ pair_refused_first s w a i j op h =
     answer-append_err is_owed (mul_op (often i j) (entry w i j) ∷ []) (mul_ops (rational_entry a i j) (whole (multiple_entry w i j))
     ++ add_ops s (pair_at w a i j)) (multiple_entry w i j) (s +ℚ pair_at w a i j) op h
 
+-- once the multiple is there, the product and the sum are left
+multiple_done : (s : Rational) (w : Symmetric) (a : RationalMatrix) (i j : ℕ) (z : ℤ)
+    → answer is_owed (mul_op (often i j) (entry w i j) ∷ []) (multiple_entry w i j) ≡ Ok z
+    → (answer is_owed (pair_step_from s w a i j) (s +ℚ pair_at w a i j)
+    ≡ answer is_owed (mul_ops (rational_entry a i j) (whole (multiple_entry w i j)) ++ add_ops s (pair_at w a i j)) (s +ℚ pair_at w a i j))
+    × (multiple_entry w i j ≡ z)
+multiple_done s w a i j z h =
+    answer-append_ok is_owed (mul_op (often i j) (entry w i j) ∷ []) (mul_ops (rational_entry a i j) (whole (multiple_entry w i j))
+    ++ add_ops s (pair_at w a i j)) (multiple_entry w i j) z (s +ℚ pair_at w a i j) h
+
 pub pair_refused_second : (s : Rational) (w : Symmetric) (a : RationalMatrix) (i j : ℕ) (z : ℤ) (q : Rational) (op : IntOp)
     → answer is_owed (mul_op (often i j) (entry w i j) ∷ []) (multiple_entry w i j) ≡ Ok z → q ≡ rational_entry a i j
     → answer is_owed (mul_ops q (whole z)) (q *ℚ whole z) ≡ Err op → answer is_owed (pair_step_from s w a i j) (s +ℚ pair_at w a i j) ≡ Err op
 pair_refused_second s w a i j z q op h e g =
-    let r = answer-append_ok is_owed (mul_op (often i j) (entry w i j) ∷ []) (mul_ops (rational_entry a i j) (whole (multiple_entry w i j))
-    ++ add_ops s (pair_at w a i j)) (multiple_entry w i j) z (s +ℚ pair_at w a i j) h in
+    let r = multiple_done s w a i j z h in
     r.0 ∙ answer-append_err is_owed (mul_ops (rational_entry a i j) (whole (multiple_entry w i j))) (add_ops s (pair_at w a i j)) (pair_at w a i j)
     (s +ℚ pair_at w a i j) op
     (ap₂ (λ (x : Rational) (m : ℤ). answer is_owed (mul_ops x (whole m)) (x *ℚ whole m)) (sym e) r.1 ∙ g)
@@ -102,8 +111,7 @@ pub pair_goes_on : (s : Rational) (w : Symmetric) (a : RationalMatrix) (i j : �
     → answer is_owed (mul_ops q (whole z)) (q *ℚ whole z) ≡ Ok p
     → answer is_owed (add_ops s p) (s +ℚ p) ≡ answer is_owed (pair_step_from s w a i j) (s +ℚ pair_at w a i j)
 pair_goes_on s w a i j z q p h e g =
-    let r = answer-append_ok is_owed (mul_op (often i j) (entry w i j) ∷ []) (mul_ops (rational_entry a i j) (whole (multiple_entry w i j))
-    ++ add_ops s (pair_at w a i j)) (multiple_entry w i j) z (s +ℚ pair_at w a i j) h in
+    let r = multiple_done s w a i j z h in
     let m = answer-append_ok is_owed (mul_ops (rational_entry a i j) (whole (multiple_entry w i j))) (add_ops s (pair_at w a i j)) (pair_at w a i j) p
     (s +ℚ pair_at w a i j)
     (ap₂ (λ (x : Rational) (m : ℤ). answer is_owed (mul_ops x (whole m)) (x *ℚ whole m)) (sym e) r.1 ∙ g) in

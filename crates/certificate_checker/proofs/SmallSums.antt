@@ -1,9 +1,10 @@
 -- Sums of small numbers, none of whose operations is owed.
-use Rattle.std.specs.Prelude.{◌≡◌, ℕ, zero, suc, ◌+◌, ◌-◌, ◌*◌, ◌^◌, ◌<◌, ◌≤◌, nat_abs, nat_lt, Bool, false, ℤ, ◌+ℤ◌, ◌*ℤ◌, List, [], ◌∷◌, Some, None}
+use Rattle.std.specs.Prelude.{◌≡◌, ℕ, zero, suc, ◌+◌, ◌-◌, ◌*◌, ◌^◌, ◌<◌, ◌≤◌, nat_abs, FitsSigned, nat_lt, Bool, false, ℤ, ◌+ℤ◌, ◌*ℤ◌, List, [], ◌∷◌, Some}
+use Rattle.std.specs.Prelude.{None}
 use Rattle.std.specs.Prelude.{if◌then◌else◌}
-use Rattle.std.proofs.Common.{arith, ◌∙◌, ap, ap₂, refl, to_z, of_z}
-use mir.Syntax.{w64, w128}
-use Rattle.std.proofs.lemmas.Int.{ints, unsigned_abs-mul}
+use Rattle.std.proofs.Common.{arith, sym, ◌∙◌, ap, ap₂, refl, to_z, of_z}
+use mir.Syntax.{Width, w64, w128}
+use Rattle.std.proofs.lemmas.Int.{ints, unsigned_abs-mul, fits_signed_from_abs, to_z-of_z}
 use Rattle.std.proofs.lemmas.Nat.{mul-le}
 use Rattle.exact_forms.specs.Sums.{sum_to}
 use Rattle.exact_forms.proofs.Sums.{sum_to-zero, sum_to_more}
@@ -19,7 +20,7 @@ use Rattle.certificate_checker.specs.Dots.{dot, dot_ops, rows_times, times_ops}
 use Rattle.certificate_checker.specs.Small.{AreSmall, AreSmallBelow}
 use Rattle.certificate_checker.specs.Leaves.{column_ops, generator_ops}
 use Rattle.certificate_checker.proofs.Loops.{loop_start, loop_more}
-use Rattle.certificate_checker.proofs.DotSums.{dot_step, dot_ops_are, times_step, times_ops_are}
+use Rattle.certificate_checker.proofs.DotSums.{dot_more, dot_step, dot_ops_are, times_step, times_ops_are}
 
 abs_product : (a b : ℤ) (m n : ℕ) → nat_abs a ≤ m → nat_abs b ≤ n → nat_abs (a *ℤ b) ≤ m * n
 abs_product a b m n h k =
@@ -151,3 +152,22 @@ product_read_128 n k x y l h m =
     let b = m k l in
     ap₂ (λ (u : ℤ) (v : ℤ). to_z w128 (of_z w128 (u *ℤ v))) (read_64_128 (x k) (omega (arith, a))) (read_64_128 (y k) (omega (arith, b)))
     ∙ read_128 (x k *ℤ y k) (product_in_128 n k x y l h m)
+
+-- ---- one more product
+next_at : (w : Width) (k : ℕ) (x y : ℕ → ℤ) (s p : ℤ) → FitsSigned w (dot k x y +ℤ x k *ℤ y k) → s ≡ dot k x y → p ≡ x k *ℤ y k
+    → (FitsSigned w (s +ℤ p)) × (to_z w (of_z w (s +ℤ p)) ≡ dot (k + 1) x y)
+next_at w k x y s p fits e f =
+    let sum : s +ℤ p ≡ dot k x y +ℤ x k *ℤ y k = ap₂ (λ (a : ℤ) (b : ℤ). a +ℤ b) e f in
+    rw sum (fits, to_z-of_z w _ fits ∙ sym (dot_more k x y))
+
+pub next_64 : (n k : ℕ) (x y : ℕ → ℤ) (s : ℤ) → n ≤ 8 → k < n → AreSmall n (2 ^ 40) x → AreSmall n (2 ^ 19) y → s ≡ dot k x y
+    → let p : ℤ = to_z w64 (of_z w64 (to_z w64 (of_z w64 (x k)) *ℤ to_z w64 (of_z w64 (y k)))) in
+    (FitsSigned w64 (s +ℤ p)) × (to_z w64 (of_z w64 (s +ℤ p)) ≡ dot (k + 1) x y)
+next_64 n k x y s few l h m e =
+    next_at w64 k x y s _ (fits_signed_from_abs w64 (dot k x y +ℤ x k *ℤ y k) (sum_in_64 n k x y few l h m)) e (product_read_64 n k x y l h m)
+
+pub next_128 : (n k : ℕ) (x y : ℕ → ℤ) (s : ℤ) → n ≤ 8 → k < n → AreSmall n (2 ^ 19) x → AreSmall n (2 ^ 62) y → s ≡ dot k x y
+    → let p : ℤ = to_z w128 (of_z w128 (to_z w128 (of_z w128 (to_z w64 (of_z w64 (x k)))) *ℤ to_z w128 (of_z w128 (to_z w64 (of_z w64 (y k)))))) in
+    (FitsSigned w128 (s +ℤ p)) × (to_z w128 (of_z w128 (s +ℤ p)) ≡ dot (k + 1) x y)
+next_128 n k x y s few l h m e =
+    next_at w128 k x y s _ (fits_signed_from_abs w128 (dot k x y +ℤ x k *ℤ y k) (sum_in_128 n k x y few l h m)) e (product_read_128 n k x y l h m)

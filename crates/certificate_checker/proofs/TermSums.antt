@@ -1,6 +1,6 @@
 -- The checks of a factorization, step by step.
 use Rattle.std.specs.Prelude.{◌≡◌, ℕ, ◌+◌, ◌-◌, ◌<◌, ◌≤◌, ◌⊎◌, Bool, true, false, ◌&&◌, ◌||◌, nat_lt, nat_eq, int_lt, ℤ, pos, ◌*ℤ◌, List, [], ◌∷◌, ◌++◌, length}
-use Rattle.std.specs.Prelude.{take, Some, None, Ok, Err, slice_index_or, slice_get}
+use Rattle.std.specs.Prelude.{take, Some, None, Result, Ok, Err, slice_index_or, slice_get}
 use Rattle.std.proofs.Common.{arith, sym, ◌∙◌, ap, ap₂, refl, inl, inr}
 use Rattle.std.specs.Int.{w128}
 use Rattle.std.proofs.Common.{to_z, mul-le-mul}
@@ -105,9 +105,12 @@ abbrev pub added : List WeightedVector → ℕ → ℕ → ℕ → Rational → 
 added terms i j k s = mul_ops (term_at terms k).weight (outer_entry (term_at terms k) i j)
     ++ add_ops s ((term_at terms k).weight *ℚ outer_entry (term_at terms k) i j)
 
+abbrev term_added : List WeightedVector → ℕ → ℕ → ℕ → Rational → Result Rational IntOp
+term_added terms i j k s = answer is_owed (added terms i j k s) (s +ℚ (term_at terms k).weight *ℚ outer_entry (term_at terms k) i j)
+
 pub sum_goes_on : (terms : List WeightedVector) (i j k : ℕ) (s z : Rational) → k < length terms → s ≡ weighted_sum (take k terms) i j
     → first_owed is_owed (steps (weighted_step terms i j) k) ≡ None
-    → answer is_owed (added terms i j k s) (s +ℚ (term_at terms k).weight *ℚ outer_entry (term_at terms k) i j) ≡ Ok z
+    → term_added terms i j k s ≡ Ok z
     → (first_owed is_owed (steps (weighted_step terms i j) (k + 1)) ≡ None) × (z ≡ weighted_sum (take (k + 1) terms) i j)
 sum_goes_on terms i j k s z l e before here =
     let r = none_of_ok is_owed (added terms i j k s) (s +ℚ (term_at terms k).weight *ℚ outer_entry (term_at terms k) i j) z here in (
@@ -118,7 +121,7 @@ sum_goes_on terms i j k s z l e before here =
 
 pub sum_refused : (terms : List WeightedVector) (i j k : ℕ) (s : Rational) (op : IntOp) → k < length terms → s ≡ weighted_sum (take k terms) i j
     → first_owed is_owed (steps (weighted_step terms i j) k) ≡ None
-    → answer is_owed (added terms i j k s) (s +ℚ (term_at terms k).weight *ℚ outer_entry (term_at terms k) i j) ≡ Err op
+    → term_added terms i j k s ≡ Err op
     → first_owed is_owed (steps (weighted_step terms i j) (length terms)) ≡ Some op
 sum_refused terms i j k s op l e before here =
     loop_refused is_owed (weighted_step terms i j) (length terms) k op l before

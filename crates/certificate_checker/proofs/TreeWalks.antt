@@ -175,16 +175,16 @@ split_goes_on n q v g lines k i j levels due agree e some li lj fits =
     ∙ made_then (mediant_ops n g (i - 1) (j - 1)) _ (ap (first_owed is_owed) (sym (mediant_ops_same n v g (i - 1) (j - 1) li lj agree)) ∙ fits)
 
 -- the children's numbers
-pub first_agrees : (n : ℕ) (v : List (List ℤ)) (sums : List ℤ) (g : Generators) (i j : ℕ) → length v ≡ 8 → n ≤ 8 → i < n → j < n → AgreeBelow n (at v) g
-    → AreFirst n sums (λ p. at v i p +ℤ at v j p) → AgreeBelow n (at (slice_set v i sums)) (child g i j)
-first_agrees n v sums g i j room few li lj agree is =
-    child_row n v sums g i j (omega (arith, room)) li lj agree (λ p l. is p l ∙ ap₂ (λ (a : ℤ) (b : ℤ). a +ℤ b) (agree i p li l) (agree j p lj l))
+module _ (n : ℕ) (v : List (List ℤ)) (sums : List ℤ) (g : Generators) (i j : ℕ) (room : length v ≡ 8) (few : n ≤ 8) (li : i < n) (lj : j < n)
+    (agree : AgreeBelow n (at v) g) (is : AreFirst n sums (λ p. at v i p +ℤ at v j p)) where
+  sums_agree : AreFirst n sums (λ p. g i p +ℤ g j p)
+  sums_agree p l = is p l ∙ ap₂ (λ (a : ℤ) (b : ℤ). a +ℤ b) (agree i p li l) (agree j p lj l)
 
-pub second_agrees : (n : ℕ) (v : List (List ℤ)) (sums : List ℤ) (g : Generators) (i j : ℕ) → length v ≡ 8 → n ≤ 8 → i < n → j < n → AgreeBelow n (at v) g
-    → AreFirst n sums (λ p. at v i p +ℤ at v j p) → AgreeBelow n (at (slice_set v j sums)) (child g j i)
-second_agrees n v sums g i j room few li lj agree is =
-    child_row n v sums g j i (omega (arith, room)) lj li agree (λ p l. is p l ∙ ap₂ (λ (a : ℤ) (b : ℤ). a +ℤ b) (agree i p li l) (agree j p lj l)
-    ∙ +ℤ_comm (g i p) (g j p))
+  pub first_agrees : AgreeBelow n (at (slice_set v i sums)) (child g i j)
+  first_agrees = child_row n v sums g i j (omega (arith, room)) li lj agree sums_agree
+
+  pub second_agrees : AgreeBelow n (at (slice_set v j sums)) (child g j i)
+  second_agrees = child_row n v sums g j i (omega (arith, room)) lj li agree (λ p l. sums_agree p l ∙ +ℤ_comm (g i p) (g j p))
 
 -- ---- both children
 goes_on_as : (n : ℕ) (q : Matrix) (lines : Lines) (k l : ℕ) (here there : Node) (due : List Node) (result : Result ℕ Checked)

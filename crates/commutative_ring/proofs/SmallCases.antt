@@ -3,13 +3,13 @@
 -- | of two natural numbers | |
 -- |---|---|
 -- | three_ways, below_or_not, at_least_or_below, at_least_or_at_most | how they stand to each other |
--- | same_or_not, apart_ways, zero_or_some | whether they are the same |
+-- | same_or_not, apart_ways, zero_or_some, same_unless_apart, names_apart | whether they are the same |
 -- | last_or_before, before_or_last, here_or_before, before_or_here | one below a successor: of suc n, and of n + 1 |
 -- | next_or_within, same_or_below, here_or_after | one within a bound |
 -- | below_unless_same, at_most_itself, zero_plus, mod_one, positive_product | order and arithmetic |
 -- | same_of_test, test_of_same, test_of_apart | `nat_eq` as a test |
 -- | below_of_test, at_most_of_test, at_least_of_test, test_of_below, test_of_at_least | `nat_lt` as a test |
--- | both_true, not_false, not_true, true_or_false | tests in general |
+-- | both_true, not_false, not_true, true_or_false, false_unless | tests in general |
 --
 -- | of integers | |
 -- |---|---|
@@ -19,7 +19,7 @@
 -- | nat_abs-neg, zero_within, minus_twice | arithmetic |
 use Rattle.std.specs.Prelude.{◌≡◌, ◌≢◌, ◌⊎◌, ℕ, suc, ◌+◌, ◌*◌, ◌%◌, ◌<◌, ◌≤◌, nat_eq, nat_lt, Bool, true, false, not, ◌&&◌}
 use Rattle.std.specs.Prelude.{ℤ, pos, negsuc, nat_abs, neg_ℤ, ◌-ℤ◌, ◌+ℤ◌, ◌*ℤ◌, ◌≤ℤ◌, ◌<ℤ◌, int_lt}
-use Rattle.std.proofs.Common.{arith, refl, inl, inr}
+use Rattle.std.proofs.Common.{arith, refl, sym, inl, inr}
 use Rattle.std.proofs.lemmas.Bool.Decides.{nat_tests}
 use Rattle.std.proofs.lemmas.Int.{ints}
 use Rattle.commutative_ring.proofs.Expand.{expand}
@@ -45,6 +45,23 @@ apart_ways i j n = grind arith
 
 pub zero_or_some : (n : ℕ) → (n ≡ 0) ⊎ (0 < n)
 zero_or_some n = grind arith
+
+pub same_unless_apart : (i j : ℕ) → (i < j → ⊥) → (j < i → ⊥) → i ≡ j
+same_unless_apart i j h k = by (three_ways i j)
+  where
+    by : ((i < j) ⊎ ((i ≡ j) ⊎ (j < i))) → i ≡ j
+    by (inl l) = absurd (h l)
+    by (inr (inl e)) = e
+    by (inr (inr l)) = absurd (k l)
+
+-- names that differ for a smaller place and a greater one differ for any two
+pub names_apart : (name : ℕ → ℕ) (n : ℕ) → ((i j : ℕ) → i < j → j < n → name i ≢ name j)
+    → (i j : ℕ) → i < n → j < n → i ≢ j → name i ≢ name j
+names_apart name n h i j li lj ne e = by (apart_ways i j ne)
+  where
+    by : ((i < j) ⊎ (j < i)) → ⊥
+    by (inl l) = h i j l lj e
+    by (inr l) = h j i l li (sym e)
 
 -- ---- one below a successor
 pub last_or_before : (i n : ℕ) → i < suc n → (i ≡ n) ⊎ (i < n)
@@ -126,6 +143,10 @@ not_true false t = refl
 pub true_or_false : (b : Bool) → (b ≡ true) ⊎ (b ≡ false)
 true_or_false true = inl refl
 true_or_false false = inr refl
+
+pub false_unless : (b : Bool) → (b ≡ true → ⊥) → b ≡ false
+false_unless true h = absurd (h refl)
+false_unless false h = refl
 
 -- ---- the order of integers
 pub at_most_itself_ℤ : (z : ℤ) → z ≤ℤ z

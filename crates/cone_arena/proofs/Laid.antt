@@ -88,7 +88,7 @@ place_empty slots w h =
     ap (λ (s : Places). get_or s w None) h.laid ∙ ap (λ (k : ℕ). get_or (laid_out (somes slots) (length slots - w)) k None) (sym h.count)
     ∙ get_past (somes slots) (length slots - w)
 
-pub row_added : (slots : Places) (w : ℕ) (c : ShownCone) → IsLaid slots w → w < length slots
+row_added : (slots : Places) (w : ℕ) (c : ShownCone) → IsLaid slots w → w < length slots
     → IsLaid (slice_set slots w (Some c)) (w + 1) × (somes (slice_set slots w (Some c)) ≡ somes slots ++ c ∷ [])
 row_added slots w c h room =
     let one : length slots - w ≡ suc (length slots - w - 1) = omega (arith, room) in
@@ -100,6 +100,12 @@ row_added slots w c h room =
     let more : length (somes slots ++ c ∷ []) ≡ w + 1 = omega (arith, length-append (somes slots) (c ∷ []), h.count) in
     let f = formed (slice_set slots w (Some c)) (somes slots ++ c ∷ []) (length slots - w - 1) is in
     (subst (IsLaid (slice_set slots w (Some c))) more f.0, f.1)
+
+-- a row is put on top where there is room
+pub row_pushed : (slots : Places) (w room : ℕ) (seen : ShownRows) (c : ShownCone) → IsLaid slots w → length slots ≡ room → record_of slots room ≡ seen
+    → length seen.items < seen.room
+    → IsLaid (slice_set slots w (Some c)) (w + 1) × (somes (slice_set slots w (Some c)) ≡ somes slots ++ c ∷ [])
+row_pushed slots w room seen c h places e l = row_added slots w c h (counted_below slots w h room places seen e l)
 
 -- the rows, and what is above them
 mapped : (slots : Places) (w : ℕ) → IsLaid slots w → w ≡ length (map Some (somes slots))

@@ -1,9 +1,11 @@
 -- What the walks of the block share. The memory of a row of places is circular_buffer's.
 --     Cr, Bs, Mark      the types of the block, as they are stored
 --     mark_had, mark_made   a value of no bytes
+--     size_fits, offset_fits   the size of a value, and where a place of the block begins, are words
 --     emptied           the values in the places are forgotten
 use mathlib.Core.Path.{◌≡◌, refl, subst}
-use Prim.Native.Nat.{ℕ, ◌+◌}
+use Prim.Native.Nat.{ℕ, ◌+◌, ◌*◌, ◌<◌, ◌^◌}
+use native.Mathlib.Omega.{arith}
 use mathlib.Core.List.{List, [], ◌∷◌, ◌++◌}
 use lib.ListN.{length, replicate}
 use seplogic.Ra.Ura.{Ura}
@@ -19,6 +21,7 @@ use denote.Struct.Struct.{Struct}
 use denote.Struct.Owning.{shape}
 use Rattle.std.specs.Prelude.{Some, None}
 use Rattle.core.proofs.mem.Param.{El, R, elτ}
+use Rattle.core.proofs.ptr.Rows.{times_below, one_below}
 use Rattle.std_alloc.proofs.RawLayout.{as_raw}
 use Rattle.std_alloc.proofs.RcSteps.{Good}
 use Rattle.circular_buffer.specs.Ownership.{slot, slots}
@@ -59,6 +62,12 @@ module _ (E : El) where
   -- the one field of `Cells`, which takes no bytes
   abbrev pub Mark : RattleType
   Mark = Struct (shape (C-type.the_type (R E)))
+
+pub size_fits : (E : El) (count index : ℕ) → index < count → count * sz E < 2 ^ 63 → sz E < 2 ^ 64
+size_fits E count index within small = let s = sz E in omega (arith, one_below count s (2 ^ 63) (omega arith) small)
+
+pub offset_fits : (E : El) (count index : ℕ) → index < count → count * sz E < 2 ^ 63 → index * sz E < 2 ^ 64
+offset_fits E count index within small = let s = sz E in omega (arith, times_below index count s (2 ^ 63) (omega arith) small)
 
 pub mark_made : (E : El) {M : Type 1} {𝓤 : Ura M} (𝓛 : Logic 𝓤) → ent 𝓤 (emp 𝓤) (sem 𝓛 ((Mark E).own_val (tt, tt) (mark ∷ [])))
 mark_made E 𝓛 =

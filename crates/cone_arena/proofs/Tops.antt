@@ -1,57 +1,13 @@
 -- The top of a list of cones, and the list after a split.
-use Rattle.std.specs.Prelude.{◌≡◌, ℕ, ◌<◌, ◌≤◌, ◌+◌, ◌-◌, List, [], ◌∷◌, ◌++◌, All, length, take, slice_index_or, slice_set}
-use Rattle.std.proofs.Common.{arith, sym, ◌∙◌, ap, ap₂, subst, length-append, length-set, length-take, take-take}
-use Rattle.std.proofs.Math.Seq.{get_or-append_seam, set-append_seam, take-append_seam}
-use Rattle.std.proofs.lemmas.List.{take_all, take_more, append_assoc, set-append_left, set-append_right, take_more_set, get_or-take, set-get_or}
-use Rattle.std.proofs.lemmas.List.Elements.{All-push, All-set, All-take}
-use Rattle.unimodular_cone.specs.Shown.{ShownCone}
-
-pub on_top : (cones : List ShownCone) (c : ShownCone) (at : ℕ) → at + 1 ≡ length cones → c ≡ slice_index_or cones at c → cones ≡ take at cones ++ c ∷ []
-on_top cones c at here is =
-    sym (take_all (at + 1) cones (omega arith))
-    ∙ take_more cones at c (omega arith)
-    ∙ ap (λ (x : ShownCone). take at cones ++ x ∷ []) (sym is)
-
--- the top is changed, and another cone is put above
-pub split_at : (cones : List ShownCone) (c below above : ShownCone) (at : ℕ) → at + 1 ≡ length cones → c ≡ slice_index_or cones at c
-    → slice_set cones at below ++ above ∷ [] ≡ take at cones ++ below ∷ above ∷ []
-split_at cones c below above at here is =
-    let same : at ≡ length (take at cones) = let l : length cones ≡ length (take at cones) + 1 = ap length (on_top cones c at here is)
-    ∙ length-append (take at cones) (c ∷ []) in omega arith in
-    ap (λ (s : List ShownCone). s ++ above ∷ []) (ap₂ (λ (s : List ShownCone) (k : ℕ). slice_set s k below) (on_top cones c at here is) same
-    ∙ set-append_seam (take at cones) c [] below)
-    ∙ append_assoc (take at cones) (below ∷ []) (above ∷ [])
-
-pub sizes_split : (n : ℕ) (cones : List ShownCone) (below above : ShownCone) (at : ℕ) → All (λ (c : ShownCone). c.size ≡ n) cones → below.size ≡ n
-    → above.size ≡ n
-    → All (λ (c : ShownCone). c.size ≡ n) (slice_set cones at below ++ above ∷ [])
-sizes_split n cones below above at all b a =
-    All-push (λ (c : ShownCone). c.size ≡ n) (slice_set cones at below) above (All-set (λ (c : ShownCone). c.size ≡ n) cones at below b all) a
-
-pub more_cones : (cones : List ShownCone) (below above : ShownCone) (at : ℕ) → length (slice_set cones at below ++ above ∷ []) ≡ length cones + 1
-more_cones cones below above at = let l = length-append (slice_set cones at below) (above ∷ []) in let s = length-set cones at below in omega arith
-
--- a row of the front part and the first of the back part are set
-pub set_parts : (all below above : List ShownCone) (top : ℕ) (second first : ShownCone) → all ≡ below ++ above → length below ≡ top + 1
-    → slice_set below top second ++ slice_set above 0 first ≡ slice_set (slice_set all top second) (top + 1) first
-set_parts all below above top second first e l =
-    let inside : top < length below = omega (arith, l) in
-    let zero : top + 1 - (top + 1) ≡ 0 = omega arith in
-    ap (λ (k : ℕ). slice_set below top second ++ slice_set above k first) (sym zero)
-    ∙ sym (set-append_right (slice_set below top second) above (top + 1) (top + 1) first (length-set below top second ∙ l) (omega arith))
-    ∙ ap (λ (s : List ShownCone). slice_set s (top + 1) first) (sym (set-append_left below above top second inside)
-    ∙ ap (λ (s : List ShownCone). slice_set s top second) (sym e))
-
--- the row and the one above it are set
-pub take_pair : (old : List ShownCone) (top : ℕ) (second first : ShownCone) → top + 1 < length old
-    → take (top + 2) (slice_set (slice_set old top second) (top + 1) first) ≡ take top old ++ second ∷ first ∷ []
-take_pair old top second first inside =
-    let two : top + 2 ≡ top + 1 + 1 = omega arith in
-    let room : top + 1 < length (slice_set old top second) = omega (arith, length-set old top second) in
-    ap (λ (k : ℕ). take k (slice_set (slice_set old top second) (top + 1) first)) two
-    ∙ take_more_set (slice_set old top second) (top + 1) first room
-    ∙ ap (λ (s : List ShownCone). s ++ first ∷ []) (take_more_set old top second (omega arith))
-    ∙ append_assoc (take top old) (second ∷ []) (first ∷ [])
+use Rattle.std.specs.Prelude.{◌≡◌, ℕ, ◌<◌, ◌≤◌, ◌+◌, ◌-◌, true, false, List, [], ◌∷◌, ◌++◌, All, length, take, slice_index_or, slice_set}
+use Rattle.std.proofs.Common.{arith, sym, ◌∙◌, ap, subst, length-append, length-take, take-take}
+use Rattle.std.proofs.Math.Seq.{get_or-append_seam, take-append_seam}
+use Rattle.std.proofs.lemmas.List.{take_more, append_assoc, get_or-take, set-get_or, length-take-le}
+use Rattle.std.proofs.lemmas.List.Elements.{All-push, All-take}
+use Rattle.unimodular_cone.specs.Shown.{ShownCone, IsChild}
+use Rattle.unimodular_cone.proofs.Tops.{set_parts, take_pair}
+use Rattle.cone_arena.specs.Arena.{ShownArena, IsArena, IsTopOf, MaySplit, TopFits}
+use Rattle.cone_arena.specs.SplitRows.{IsSplittableAt, AreRowsSplit, IsTopRowSplit}
 
 -- lists that agree up to a row
 pub same_row : (a b : List ShownCone) (top : ℕ) (d : ShownCone) → take (top + 1) a ≡ take (top + 1) b → slice_index_or a top d ≡ slice_index_or b top d
@@ -98,3 +54,84 @@ front_kept all below above top same first e l is =
     ap (λ (s : List ShownCone). take (top + 1) (s ++ slice_set above 0 first)) back
     ∙ ap (λ (k : ℕ). take k (below ++ slice_set above 0 first)) (sym l) ∙ take-append_seam below (slice_set above 0 first)
     ∙ sym (take-append_seam below above) ∙ ap (λ (k : ℕ). take k (below ++ above)) l ∙ ap (take (top + 1)) (sym e)
+
+-- ---- a row and the next one, split
+pub rows_split : (old below above : List ShownCone) (top i j : ℕ) (was second first : ShownCone) → old ≡ below ++ above → below ≡ take (top + 1) old
+    → length below ≡ top + 1 → was ≡ slice_index_or below top was → IsChild (slice_index_or below top was) (i - 1) (j - 1) true second
+    → IsChild (slice_index_or below top was) (i - 1) (j - 1) false first
+    → AreRowsSplit old top i j (slice_set below top second ++ slice_set above 0 first)
+rows_split old below above top i j was second first e front l is one zero = record {
+  was = was;
+  second = second;
+  first = first;
+  stood = is ∙ ap (λ (s : List ShownCone). slice_index_or s top was) front ∙ get_or-take (top + 1) old top was (omega arith);
+  is_second = subst (λ (d : ShownCone). IsChild d (i - 1) (j - 1) true second) (sym is) one;
+  is_first = subst (λ (d : ShownCone). IsChild d (i - 1) (j - 1) false first) (sym is) zero;
+  rows = set_parts old below above top second first e l;
+}
+
+-- where the rows up to that one are those of another list
+pub top_split : (old xs split new : List ShownCone) (top i j : ℕ) → take (top + 1) xs ≡ take (top + 1) old → top + 1 < length xs → AreRowsSplit xs top i j split
+    → new ≡ split → IsTopRowSplit old top i j new
+top_split old xs split new top i j agree inside h e = record {
+  was = h.was;
+  second = h.second;
+  first = h.first;
+  stood = h.stood ∙ same_row xs old top h.was agree;
+  is_second = h.is_second;
+  is_first = h.is_first;
+  cones = ap (take (top + 2)) (e ∙ h.rows) ∙ take_pair xs top h.second h.first inside
+      ∙ ap (λ (s : List ShownCone). s ++ h.second ∷ h.first ∷ []) (same_below xs old top agree);
+}
+
+-- ---- an arena whose cones are the first of its rows, and which shows so many of such a size
+abbrev shows : ℕ → ℕ → ℕ → List ShownCone → ShownArena
+shows n depth len rows = record { size = n; depth = depth; cones = take len rows }
+
+module _ (n depth len : ℕ) (rows : List ShownCone) (seen : ShownArena) (i j : ℕ) (view : shows n depth len rows ≡ seen)
+    (arena : IsArena (shows n depth len rows)) (counted : len ≤ length rows) (can : MaySplit seen i j) where
+  size_is : n ≡ seen.size
+  size_is = ap (λ (a : ShownArena). a.size) view
+
+  depth_is : depth ≡ seen.depth
+  depth_is = ap (λ (a : ShownArena). a.depth) view
+
+  cones_are : take len rows ≡ seen.cones
+  cones_are = ap (λ (a : ShownArena). a.cones) view
+
+  count : length seen.cones ≡ len
+  count = ap length (sym cones_are) ∙ length-take-le len rows counted
+
+  top_is : (d : ShownCone) → d ≡ slice_index_or rows (len - 1) d → take len rows ≡ take (len - 1) rows ++ d ∷ []
+  top_is d is = top_of_rows rows len d (omega (arith, can.some, count)) counted is
+
+  pub top_splittable : TopFits seen i j → IsSplittableAt rows (len - 1) i j
+  top_splittable fits d is =
+      let top : IsTopOf seen d = (take (len - 1) rows, sym cones_are ∙ top_is d is) in
+      let same : d.size ≡ n = top_size n _ _ d arena.sizes (top_is d is) in
+      record {
+        first = can.first;
+        order = can.order;
+        last = omega (arith, can.last, size_is, same);
+        short = let s : length d.path < seen.depth = can.short d top in omega (arith, s, depth_is, arena.shallow);
+        fits = fits d top;
+      }
+
+  pub arena_split : (new : List ShownCone) → IsTopRowSplit rows (len - 1) i j new → IsArena (shows n depth (len + 1) new) × (len + 1 ≤ length new)
+  arena_split new h =
+      let some : 0 < len = omega (arith, can.some, count) in
+      let on = top_is h.was h.stood in
+      let size : h.was.size ≡ n = top_size n _ _ h.was arena.sizes on in
+      let more : len - 1 + 2 ≡ len + 1 = omega arith in
+      let cones : take (len + 1) new ≡ take (len - 1) rows ++ h.second ∷ h.first ∷ [] = ap (λ (k : ℕ). take k new) (sym more) ∙ h.cones in
+      let long : len + 1 ≤ length new = omega (arith, more, two_counted rows new (len - 1) h.second h.first (omega (arith, counted)) h.cones) in (
+        record {
+          some = arena.some;
+          few = arena.few;
+          shallow = arena.shallow;
+          room = omega (arith, length-take-le (len + 1) new long, can.room, count, depth_is);
+          sizes = subst (All (λ (d : ShownCone). d.size ≡ n)) (sym cones)
+              (sizes_after n _ _ h.was h.second h.first arena.sizes on (h.is_second.size ∙ size) (h.is_first.size ∙ size));
+        },
+        long,
+      )

@@ -5,14 +5,13 @@ use mathlib.Core.Option.{some}
 use lib.ListN.{get_elem?}
 use Rattle.commutative_ring.proofs.SmallCases.{true_or_false}
 use Rattle.crossbeam_deque.specs.Tasks.{Pushes, Takes, Pops, Finds, Forks, Merges}
-use Rattle.crossbeam_deque.proofs.Lists.{at_set}
 use Rattle.unimodular_cone.specs.Paths.{Path}
 use Rattle.search_core.specs.Machine.{times}
 use Rattle.search_core.proofs.Times.{times-append, times_none}
 use Rattle.cone_pool.specs.Deques.{Account, account, opening_account, another_account, away_account, account_with_one_more, joined_account, first_accounts}
 use Rattle.cone_pool.specs.Deques.{present_accounts, IsBalanced, PutsPaths, TakesPaths, TakesPathsWithin, TookAllThatItPut}
 use Rattle.bound_word.proofs.Each.{each_set, each_snoc, each_one}
-use Rattle.cone_pool.proofs.Accounts.{total_set, total_snoc, total_two, total_alone}
+use Rattle.bound_word.proofs.Totals.{total_set, total_snoc, total_two, total_alone, still_there, first_set}
 
 abbrev is_first : Account → ℕ
 is_first v = cond v.first 1 0
@@ -26,12 +25,22 @@ puts p v = times p v.put
 abbrev takes : Path → Account → ℕ
 takes p v = times p v.taken
 
+-- what is to hold of each account, where n are present
+abbrev Gone : Account → Type 0
+Gone u = u.away ≡ true → u ≡ away_account
+
+abbrev Alone : ℕ → Account → Type 0
+Alone n u = u.out + 1 ≡ n
+
+abbrev Out : ℕ → Account → Type 0
+Out n u = u.first ≡ true → Alone n u
+
 pub begins : IsBalanced [] (opening_account ∷ [])
 begins = record {
   balanced = λ p. (let a = times_none p in omega arith);
-  gone = each_one (λ (v : Account). v.away ≡ true → v ≡ away_account) opening_account (λ e. absurd (true≢false (sym e)));
+  gone = each_one Gone opening_account (λ e. absurd (true≢false (sym e)));
   one_first = refl;
-  out = each_one (λ (v : Account). v.first ≡ true → v.out + 1 ≡ 1) opening_account (λ e. refl);
+  out = each_one (Out 1) opening_account (λ e. refl);
 }
 
 -- an account that changes only in what it put and took
@@ -46,9 +55,9 @@ changes items items' accounts k v put taken here at same h =
     let firsts_same : first_accounts vs ≡ first_accounts accounts = (let t = total_set is_first accounts k v w at in omega arith) in record {
       balanced = λ p. (let a = total_set (puts p) accounts k v w at in let b = total_set (takes p) accounts k v w at in let c = h.balanced p in
           let d = same p in omega arith);
-      gone = each_set (λ (u : Account). u.away ≡ true → u ≡ away_account) accounts k w (λ e. absurd (true≢false (sym e ∙ here))) h.gone;
+      gone = each_set Gone accounts k w (λ e. absurd (true≢false (sym e ∙ here))) h.gone;
       one_first = firsts_same ∙ h.one_first;
-      out = each_set (λ (u : Account). u.first ≡ true → u.out + 1 ≡ present_accounts vs) accounts k w (λ e. h.out k v at e ∙ sym heres)
+      out = each_set (Out (present_accounts vs)) accounts k w (λ e. h.out k v at e ∙ sym heres)
           (λ j u there e. h.out j u there e ∙ sym heres);
     }
 
@@ -103,14 +112,6 @@ pops port v here x items accounts h at = (
 pub all_taken : (port : ℕ) (v : Account) → Finds IsBalanced port v (TookAllThatItPut v)
 all_taken port v accounts h at first here out p = let a = own_balance port v [] accounts h at first here out p in omega (arith, times_none p)
 
-two_firsts : (vs : List Account) (i j : ℕ) (v u : Account) → get_elem? vs i ≡ some v → get_elem? vs j ≡ some u → v.first ≡ true → u.first ≡ true → j ≢ i
-    → first_accounts vs ≡ 1 → ⊥
-two_firsts vs i j v u here there a b apart one =
-    let t = total_two is_first vs j i u v there here apart in
-    let x : is_first v ≡ 1 = ap (λ c. cond c 1 0) a in
-    let y : is_first u ≡ 1 = ap (λ c. cond c 1 0) b in
-    omega arith
-
 pub forks : (port : ℕ) (v : Account) → v.first ≡ true → v.away ≡ false → Forks IsBalanced port v (account_with_one_more v) another_account
 forks port v first here items accounts h at =
     let l : Account = account_with_one_more v in
@@ -119,19 +120,16 @@ forks port v first here items accounts h at =
     let one_more : present_accounts all ≡ present_accounts accounts + 1 =
     (let a = total_set is_here accounts port v l at in let b = total_snoc is_here vs another_account in omega arith) in
     let firsts_same : first_accounts all ≡ first_accounts accounts =
-    (let a = total_set is_first accounts port v l at in let b = total_snoc is_first vs another_account in omega arith) in
-    let Gone : Account → Type 0 = λ u. u.away ≡ true → u ≡ away_account in
-    let Out : Account → Type 0 = λ u. u.first ≡ true → u.out + 1 ≡ present_accounts all in record {
+    (let a = total_set is_first accounts port v l at in let b = total_snoc is_first vs another_account in omega arith) in record {
       balanced = λ p. (let a = total_set (puts p) accounts port v l at in let b = total_set (takes p) accounts port v l at in
           let c = total_snoc (puts p) vs another_account in let d = total_snoc (takes p) vs another_account in
           let e = h.balanced p in let g = times_none p in omega arith);
       gone = each_snoc Gone vs another_account (λ e. absurd (true≢false (sym e)))
           (each_set Gone accounts port l (λ e. absurd (true≢false (sym e ∙ here))) h.gone);
       one_first = firsts_same ∙ h.one_first;
-      out = each_snoc Out vs another_account (λ e. absurd (true≢false (sym e))) (λ j u there. ⊎_elim
-          (λ (t : (j ≡ port) × (l ≡ u)). subst Out t.1 (λ e. (let a = h.out port v at first in omega arith)))
-          (λ (t : (j ≢ port) × (get_elem? accounts j ≡ some u)). λ e. absurd (two_firsts accounts port j v u at t.1 first e t.0 h.one_first))
-          (at_set accounts port j l u there));
+      out = each_snoc (Out (present_accounts all)) vs another_account (λ e. absurd (true≢false (sym e)))
+          (first_set (λ (u : Account). u.first) (Alone (present_accounts all)) accounts port v l at first h.one_first
+          (let a = h.out port v at first in omega arith));
     }
 
 pub merges : (port : ℕ) (v : Account) (other : ℕ) (w : Account) → v.first ≡ true → v.away ≡ false → w.first ≡ false → w.away ≡ false
@@ -140,8 +138,7 @@ merges port v other w first here second there items accounts h at apart at' =
     let both : Account = joined_account v w in
     let vs : List Account = slice_set accounts port both in
     let all : List Account = slice_set vs other away_account in
-    let was : get_elem? accounts other ≡ some w = ⊎_elim (λ (t : (other ≡ port) × (both ≡ w)). absurd (apart t.0))
-    (λ (t : (other ≢ port) × (get_elem? accounts other ≡ some w)). t.1) (at_set accounts port other both w at') in
+    let was = still_there accounts port other both w apart at' in
     let one : is_here v ≡ 1 = ap (λ c. cond c 0 1) here in
     let two : is_here w ≡ 1 = ap (λ c. cond c 0 1) there in
     let none : is_first w ≡ 0 = ap (λ c. cond c 1 0) second in
@@ -149,16 +146,13 @@ merges port v other w first here second there items accounts h at apart at' =
     (let a = total_set is_here accounts port v both at in let b = total_set is_here vs other w away_account at' in omega arith) in
     let more : 2 ≤ present_accounts accounts = (let a = total_two is_here accounts other port w v was at apart in omega arith) in
     let firsts_same : first_accounts all ≡ first_accounts accounts =
-    (let a = total_set is_first accounts port v both at in let b = total_set is_first vs other w away_account at' in omega arith) in
-    let Gone : Account → Type 0 = λ u. u.away ≡ true → u ≡ away_account in
-    let Out : Account → Type 0 = λ u. u.first ≡ true → u.out + 1 ≡ present_accounts all in record {
+    (let a = total_set is_first accounts port v both at in let b = total_set is_first vs other w away_account at' in omega arith) in record {
       balanced = λ p. (let a = total_set (puts p) accounts port v both at in let b = total_set (takes p) accounts port v both at in
           let c = total_set (puts p) vs other w away_account at' in let d = total_set (takes p) vs other w away_account at' in
           let e = h.balanced p in let g = times_none p in omega (arith, times-append p v.put w.put, times-append p v.taken w.taken));
       gone = each_set Gone vs other away_account (λ e. refl) (each_set Gone accounts port both (λ e. absurd (true≢false (sym e ∙ here))) h.gone);
       one_first = firsts_same ∙ h.one_first;
-      out = each_set Out vs other away_account (λ e. absurd (true≢false (sym e))) (λ j u there'. ⊎_elim
-          (λ (t : (j ≡ port) × (both ≡ u)). subst Out t.1 (λ e. (let a = h.out port v at first in omega arith)))
-          (λ (t : (j ≢ port) × (get_elem? accounts j ≡ some u)). λ e. absurd (two_firsts accounts port j v u at t.1 first e t.0 h.one_first))
-          (at_set accounts port j both u there'));
+      out = each_set (Out (present_accounts all)) vs other away_account (λ e. absurd (true≢false (sym e)))
+          (first_set (λ (u : Account). u.first) (Alone (present_accounts all)) accounts port v both at first h.one_first
+          (let a = h.out port v at first in omega arith));
     }

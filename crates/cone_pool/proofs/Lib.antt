@@ -1,4 +1,3 @@
-pub mod Accounts
 pub mod Balances
 pub mod Taking
 pub mod Tops

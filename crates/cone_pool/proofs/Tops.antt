@@ -1,16 +1,10 @@
 -- The cone on top of a stack.
 use Rattle.std.specs.Prelude.{◌≡◌, ℕ, ◌<◌, ◌+◌, ◌-◌, List, [], ◌∷◌, ◌++◌, length, take, slice_index_or}
-use Rattle.std.proofs.Common.{arith, sym, ◌∙◌, ap, ap₂, length-append}
+use Rattle.std.proofs.Common.{arith, ◌∙◌, ap, ap₂, length-append}
 use Rattle.std.proofs.Math.Seq.{get_or-append_seam}
-use Rattle.std.proofs.lemmas.List.{take_all, take_more}
 use Rattle.unimodular_cone.specs.Shown.{ShownCone}
+use Rattle.unimodular_cone.proofs.Tops.{on_top}
 use Rattle.cone_pool.specs.Turns.{IsOnTop}
-
-pub on_top : (stack : List ShownCone) (c : ShownCone) (at : ℕ) → at + 1 ≡ length stack → c ≡ slice_index_or stack at c → IsOnTop c (take at stack) stack
-on_top stack c at here is =
-    sym (take_all (at + 1) stack (omega arith))
-    ∙ take_more stack at c (omega arith)
-    ∙ ap (λ (x : ShownCone). take at stack ++ x ∷ []) (sym is)
 
 -- the last cone of a stack is on top
 pub shown_top : (stack : List ShownCone) (c : ShownCone) → 0 < length stack → c ≡ slice_index_or stack (length stack - 1) c

@@ -18,7 +18,13 @@ use Rattle.search_core.specs.Machine.{times}
 use Rattle.search_core.proofs.Times.{times_none}
 use Rattle.cone_pool.specs.Lots.{Lot, token_taken}
 use Rattle.cone_pool.specs.Turns.{SplitsAt, TopSplits, AreStacked, IsTopTurned, IsTopAt}
-use Rattle.cone_pool.specs.Parts.{Member, AreCones, IsWorkerPart, IsSafe, IsFateOnTop}
+use Rattle.cone_pool.specs.Parts.{Member, AreCones, IsWorkerPart, IsSameMember, IsSafe, IsFateOnTop}
+
+-- a worker with nothing in its hand, as it stands between two turns
+pub record IsBetweenTurns (m : Mode) (n : ℕ) (q : Matrix) (d : ℕ) (old new : Member) : Type 0 where
+  pub part : IsWorkerPart m n q d [] new
+  pub same : IsSameMember old new
+  pub none : new.kept ≡ []
 
 pub top_splits : (m : Mode) (n : ℕ) (q : Matrix) (d : ℕ) (f : Fate) (cones : List ShownCone) → d ≤ 200 → AreCones n q d cones → IsFateOnTop m d f cones
     → TopSplits f cones

@@ -8,7 +8,6 @@
 --     account_with_one_more v  v after another pass was split off
 --     joined_account v w     v after w was joined into it
 --     account_of pass        the account of a pass
---     total_of_accounts f vs f of each account, added up
 --     first_accounts vs      how many accounts are first
 --     present_accounts vs    how many accounts were not joined away
 --     IsBalanced items vs    what was put is, path by path, what is left or was taken; one account is first, and its
@@ -25,6 +24,7 @@ use Rattle.std.specs.Global.{Global}
 use Rattle.crossbeam_deque.specs.Handles.{Pass, view}
 use Rattle.unimodular_cone.specs.Paths.{Path}
 use Rattle.search_core.specs.Machine.{times}
+use Rattle.bound_word.specs.Totals.{total_of}
 pub use Rattle.cone_pool.specs.declared.rule.Account.{Account}
 
 abbrev pub account : List Path → List Path → Bool → ℕ → Bool → Account
@@ -48,19 +48,15 @@ joined_account v w = account (v.put ++ w.put) (v.taken ++ w.taken) v.first (v.ou
 abbrev pub account_of : Pass Path Account Global → Account
 account_of pass = view pass
 
-abbrev pub total_of_accounts : (Account → ℕ) → List Account → ℕ
-total_of_accounts f [] = 0
-total_of_accounts f (v ∷ vs) = f v + total_of_accounts f vs
-
 abbrev pub first_accounts : List Account → ℕ
-first_accounts vs = total_of_accounts (λ v. cond v.first 1 0) vs
+first_accounts vs = total_of (λ (v : Account). cond v.first 1 0) vs
 
 abbrev pub present_accounts : List Account → ℕ
-present_accounts vs = total_of_accounts (λ v. cond v.away 0 1) vs
+present_accounts vs = total_of (λ (v : Account). cond v.away 0 1) vs
 
 pub record IsBalanced (items : List Path) (vs : List Account) : Type 0 where
   pub balanced : (p : Path)
-      → total_of_accounts (λ v. times p v.put) vs ≡ total_of_accounts (λ v. times p v.taken) vs + times p items
+      → total_of (λ (v : Account). times p v.put) vs ≡ total_of (λ (v : Account). times p v.taken) vs + times p items
   pub gone : (k : ℕ) (v : Account) → get_elem? vs k ≡ some v → v.away ≡ true → v ≡ away_account
   pub one_first : first_accounts vs ≡ 1
   pub out : (k : ℕ) (v : Account) → get_elem? vs k ≡ some v → v.first ≡ true → v.out + 1 ≡ present_accounts vs

@@ -41,6 +41,7 @@ use Rattle.cone_tree_certificate.specs.ProofText.{verdict_fault, missing_line, v
 use Rattle.cone_tree_certificate.specs.ProofText.{unless_unlike, separator_of, verdict_of_lines, verdict_of, ProofText}
 use Rattle.cone_tree_certificate.specs.VerdictText.{term_words, tree_words, written_terms, written_rows, written_tree, verdict_text, HasSplit, IsNarrowTerm}
 use Rattle.cone_tree_certificate.specs.VerdictText.{IsWholeSeparator, IsWritable, IsWhole}
+use Rattle.cone_tree_certificate.proofs.Symmetries.{separator_with}
 
 -- ---- words
 wide : (n limit : ℕ) → limit < 2 ^ 127 → n ≤ limit → n < 2 ^ 128
@@ -292,11 +293,8 @@ rows-separator k w value tree h =
     let square = square-full (pos 0) w.size w.lower in
     let alike = mirrored-alike int_eq (pos 0) w.size (full (pos 0) w.size w.lower) Decides-int_eq square.len (full-mirrored (pos 0) w.size w.lower) in
     rw (entries-seen k (full (pos 0) w.size w.lower), alike)
-    (ap₂ made (length-seen k (full (pos 0) w.size w.lower) ∙ square.len)
+    (ap₂ (λ (size : ℕ) (lower : List ℤ). separator_with value tree size lower) (length-seen k (full (pos 0) w.size w.lower) ∙ square.len)
     (ap (λ (rows : List (List ℤ)). lower_of rows) (entries-seen k (full (pos 0) w.size w.lower)) ∙ lower-full (pos 0) w.size w.lower h.triangle.entries))
-  where
-    made : ℕ → List ℤ → Result Verdict VerdictFault
-    made size lower = Ok (Separator (record { size = size; lower = lower }) value tree)
 
 abbrev row_words : List ℤ → List (List ℕ)
 row_words row = map signed_decimal row
@@ -318,40 +316,12 @@ separator-text w value tree = rw (flat-words row_words (full (pos 0) w.size w.lo
     join a b c d e = simp (append_assoc, append-nil)
 
 -- that the lines are plain
-record ArePlainParts (w : Symmetric) (value : Rational) (tree : Lines) : Type 0 where
-  header : IsPlainLine (separator_words w.size)
-  value_plain : IsPlainLine (value_words value)
-  count_plain : IsPlainLine (count_words (length tree))
-  all : AllByRecursion IsPlainLine (separator_lines w value tree)
-
-separator-plain : (w : Symmetric) (value : Rational) (tree : Lines) → IsWritable (Separator w value tree) → IsWhole (Separator w value tree)
-    → ArePlainParts w value tree
-separator-plain w value tree writable whole = record {
-  header = header;
-  value_plain = value_plain;
-  count_plain = count_plain;
-  all = (
-    header,
-    each-plain row_words (IsRow w.size) (λ row h. plain-row row (let len = h.len in omega (arith, len, some)) h.narrow) (full (pos 0) w.size w.lower)
-        (below_rows value tree) (full-rows w whole.matrix) (
-          value_plain,
-          (
-            count_plain,
-            each-plain tree_words (HasSplit w.size) (λ line h. plain-tree w.size line few h) tree []
-                (each (HasSplit w.size) tree writable.1) tt,
-          ),
-        ),
-  );
-}
+module _ (w : Symmetric) (value : Rational) (tree : Lines) (writable : IsWritable (Separator w value tree)) (whole : IsWhole (Separator w value tree))
   where
-    some : 1 ≤ w.size
-    some = whole.matrix.positive
-
-    few : w.size ≤ 6
-    few = writable.0
-
-    header : IsPlainLine (separator_words w.size)
-    header = record { some = omega arith; plain = (plain-codes (codes "separated") refl, (plain-decimal w.size (omega (arith, few)), tt)) }
+    header_plain : IsPlainLine (separator_words w.size)
+    header_plain =
+        let few = writable.0 in
+        record { some = omega arith; plain = (plain-codes (codes "separated") refl, (plain-decimal w.size (omega (arith, few)), tt)) }
 
     value_plain : IsPlainLine (value_words value)
     value_plain = record {
@@ -367,6 +337,22 @@ separator-plain w value tree writable whole = record {
           (plain-codes (codes "tree") refl, (plain-decimal (length tree) (let small = whole.tree_length in omega (arith, small)), tt));
     }
 
+    lines_plain : AllByRecursion IsPlainLine (separator_lines w value tree)
+    lines_plain =
+        let some : 1 ≤ w.size = whole.matrix.positive in
+        let few : w.size ≤ 6 = writable.0 in (
+          header_plain,
+          each-plain row_words (IsRow w.size) (λ row h. plain-row row (let len = h.len in omega (arith, len, some)) h.narrow) (full (pos 0) w.size w.lower)
+              (below_rows value tree) (full-rows w whole.matrix) (
+                value_plain,
+                (
+                  count_plain,
+                  each-plain tree_words (HasSplit w.size) (λ line h. plain-tree w.size line few h) tree []
+                      (each (HasSplit w.size) tree writable.1) tt,
+                ),
+              ),
+        )
+
 -- whatever the number of the first line
 separator-read : (text : List ℕ) (k : ℕ) (w : Symmetric) (value : Rational) (tree : Lines)
     → content_lines text ≡ numbered k (separator_lines w value tree) → IsWritable (Separator w value tree) → IsWhole (Separator w value tree)
@@ -376,8 +362,7 @@ separator-read text k w value tree content writable whole =
     let few = writable.0 in
     let missing : VerdictFault = missing_line (end_line text) in
     let square = square-full (pos 0) w.size w.lower in
-    let plain = separator-plain w value tree writable whole in
-    let first = line-read verdict_header k (separator_words w.size) (OfSeparator w.size) plain.header.plain
+    let first = line-read verdict_header k (separator_words w.size) (OfSeparator w.size) (header_plain w value tree writable whole).plain
     (separator-header w.size whole.matrix.positive few) in
     let read_rows : many (numbered_row w.size) (missing_line (end_line text)) w.size
     (numbered (k + 1) (map row_words (full (pos 0) w.size w.lower) ++ below_rows value tree))
@@ -387,9 +372,9 @@ separator-read text k w value tree content writable whole =
     ≡ Ok (record { items = items_from seen (k + 1) (full (pos 0) w.size w.lower); rest = numbered (k + 1 + m) (below_rows value tree) })) square.len
     (many-written (numbered_row w.size) (missing_line (end_line text)) row_words seen (IsRow w.size) (λ k row h. row_line-read w.size k row h) (k + 1)
     (full (pos 0) w.size w.lower) (below_rows value tree) (full-rows w whole.matrix)) in
-    let read_value = line-read value_of (k + 1 + w.size) (value_words value) value plain.value_plain.plain
+    let read_value = line-read value_of (k + 1 + w.size) (value_words value) value (value_plain w value tree writable whole).plain
     (value-read value (within value whole.num whole.den)) in
-    let read_count = line-read count_of (k + 1 + w.size + 1) (count_words (length tree)) (length tree) plain.count_plain.plain
+    let read_count = line-read count_of (k + 1 + w.size + 1) (count_words (length tree)) (length tree) (count_plain w value tree writable whole).plain
     (count-read (length tree) whole.tree_length) in
     let read_tree = many-written (verdict_line (tree_line_of w.size)) (missing_line (end_line text)) tree_words (λ k line. line) (HasSplit w.size)
     (λ k line h. line-read (tree_line_of w.size) k (tree_words line) line (plain-tree w.size line few h).plain (tree-read w.size line few h))
@@ -407,7 +392,7 @@ verdict-behind skipped (Factors n terms) h writable whole =
 verdict-behind skipped (Separator w value tree) h writable whole =
     separator-read _ (1 + length skipped) w value tree
     (ap (λ (t : List ℕ). content_lines (ended_lines skipped ++ t)) (separator-text w value tree)
-    ∙ content_lines-behind skipped (separator_lines w value tree) h (separator-plain w value tree writable whole).all) writable whole
+    ∙ content_lines-behind skipped (separator_lines w value tree) h (lines_plain w value tree writable whole)) writable whole
 
 pub read-behind : (before : List ℕ) (v : Verdict) → IsSkippedText before → IsWritable v → IsWhole v → ProofText (before ++ verdict_text v) v
 read-behind before v h writable whole =

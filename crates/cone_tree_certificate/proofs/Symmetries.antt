@@ -1,5 +1,6 @@
 -- W's table is compared with its mirror image, place by place.
-use Rattle.std.proofs.Common.{◌≡◌, ℕ, ◌-◌, ◌<◌, Bool, not, List, [], ◌∷◌, length, get_or, take, map, find, Option, None, Result, Ok, ℤ, pos, refl, sym, ap, ap₂}
+use Rattle.std.proofs.Common.{◌≡◌, ℕ, ◌-◌, ◌<◌, Bool, not, List, [], ◌∷◌, length, get_or, take, map, find, Option, None, Result, Ok, ℤ, pos, refl, sym, ap}
+use Rattle.std.proofs.Common.{ap₂}
 use Rattle.std.proofs.Common.{◌∙◌, arith}
 use Rattle.std.specs.List.{list_all, range_with_len}
 use Rattle.std.specs.Ordering.{int_eq}
@@ -87,12 +88,16 @@ length-table : (t : SignedTable) → length (table_rows_of t) ≡ t.size
 length-table t = length-map (take t.size t.rows) (seen_row t.size)
     ∙ length-take-le t.size t.rows (let few = t.few in let room = t.room in omega (arith, few, room))
 
+-- a separation that was read, by its size and its lower triangle
+abbrev pub separator_with : Rational → Lines → ℕ → List ℤ → Result Verdict VerdictFault
+separator_with value tree size lower = Ok (Separator (record { size = size; lower = lower }) value tree)
+
 pub separated-table : (t : SignedTable) (value : Rational) (tree : Lines) (first : Option ℕ) (w : Symmetric) → first ≡ None
     → w ≡ record { size = t.size; lower = lower_of (w_entries t) } → unless_unlike (table_rows_of t) value tree first ≡ Ok (Separator w value tree)
-separated-table t value tree first w alike is = rw (alike, is) (ap₂ made (length-table t) (ap (λ (rows : List (List ℤ)). lower_of rows) (entries-table t)))
-  where
-    made : ℕ → List ℤ → Result Verdict VerdictFault
-    made size lower = Ok (Separator (record { size = size; lower = lower }) value tree)
+separated-table t value tree first w alike is =
+    rw (alike, is)
+    (ap₂ (λ (size : ℕ) (lower : List ℤ). separator_with value tree size lower) (length-table t)
+    (ap (λ (rows : List (List ℤ)). lower_of rows) (entries-table t)))
 
 pub lower-table : (t : SignedTable) (lower : List ℤ) → AreNarrow t → lower ≡ lower_of (w_entries t) → IsLower t.size lower
 lower-table t lower narrow is = rw is (record {

@@ -51,6 +51,10 @@ dimension-size word n e =
     when_ok true d x y e = (refl, cc)
     when_ok false d x y e = absurd cc
 
+kinded-ok : {A : Type 0} (r : Result A NumberFault) (x : A) → kinded word_kind r ≡ Ok x → r ≡ Ok x
+kinded-ok (Ok y) x e = ap (λ v. Ok v) (ok_is {E = VerdictKind} y x e)
+kinded-ok (Err f) x e = absurd cc
+
 pub header-sized : (ws : List (List ℕ)) (h : Header) → verdict_header ws ≡ Ok h → IsSized h
 unfolding verdict_header
 header-sized [] h e = absurd cc
@@ -93,10 +97,6 @@ coordinates-vector n m ws xs s same e =
     let small = All-from_recursion (λ x. x ≤ largest_coordinate) xs each.each in
     record { nonempty = omega (arith, len, same, some); short = omega (arith, len, same, few); small = λ p lt. small p 0 lt }
   where
-    kinded-ok : (r : Result ℕ NumberFault) (x : ℕ) → kinded word_kind r ≡ Ok x → r ≡ Ok x
-    kinded-ok (Ok y) x e = ap (λ v. Ok v) (ok_is {E = VerdictKind} y x e)
-    kinded-ok (Err f) x e = absurd cc
-
     coordinate-small : (word : List ℕ) (x : ℕ) → whole_word largest_coordinate word ≡ Ok x → x ≤ largest_coordinate
     coordinate-small word x e = whole-within largest_coordinate word x (kinded-ok (whole_up_to largest_coordinate word) x e)
 
@@ -197,10 +197,6 @@ row-narrow : (n : ℕ) (ws : List (List ℕ)) (row : List ℤ) → signed_row n 
 unfolding signed_word
 row-narrow n ws row e = (numbers-each FitsInt (signed_word widest) ShortLine LongLine entry-narrow n ws row e).each
   where
-    kinded-ok : (r : Result ℤ NumberFault) (x : ℤ) → kinded word_kind r ≡ Ok x → r ≡ Ok x
-    kinded-ok (Ok y) x e = ap (λ v. Ok v) (ok_is {E = VerdictKind} y x e)
-    kinded-ok (Err f) x e = absurd cc
-
     entry-narrow : (word : List ℕ) (z : ℤ) → signed_word widest word ≡ Ok z → FitsInt z
     entry-narrow word z e = signed-within widest word z (kinded-ok (signed_up_to widest word) z e)
 

@@ -16,7 +16,8 @@ const LARGEST_GENERATOR: u128 = 4294967295;
 
 /// The number of at most 2^32 - 1 that the next word writes.
 fn next_generator(words: &mut Words) -> Result<u32, VerdictKind>
-    ensures { MatchResult result (λ x. first_word (whole_word largest_generator) ShortLine words.old ≡ Ok (x, words.new))
+    ensures { MatchResult result
+        (λ x. first_word (whole_word largest_generator) ShortLine words.old ≡ Ok (x, words.new))
         (λ kind. first_word (whole_word largest_generator) ShortLine words.old ≡ Err kind) }
 {
     match words.next() {

@@ -59,7 +59,8 @@ fn push_column(into: &mut Vec<u8>, column: u8, number: i128) -> Result<(), Alloc
 fn push_row(into: &mut Vec<u8>, w: &SymInt, row: u8) -> Result<(), AllocError>
     requires { row < w.now.size }
     ensures ok { OnOk result (into.new.items
-        ≡ into.old.items ++ line_of_words (map (λ j. signed_decimal (entry w.now row j)) (range_with_len 0 w.now.size))) }
+        ≡ into.old.items
+        ++ line_of_words (map (λ j. signed_decimal (entry w.now row j)) (range_with_len 0 w.now.size))) }
     ensures kept { Extends into.old.items into.new.items }
 {
     for column in 0..w.n() {

@@ -1,10 +1,11 @@
 -- How the way along a ray ends.
-use Rattle.std.specs.Prelude.{◌≡◌, ℕ, ◌+◌, ◌≤◌, ◌<◌, ℤ, pos, ◌≤ℤ◌, List, [], ◌∷◌, ◌++◌, length, None}
+use Rattle.std.specs.Prelude.{◌≡◌, ℕ, ◌+◌, ◌≤◌, ◌<◌, ℤ, pos, ◌≤ℤ◌, List, [], ◌∷◌, ◌++◌, length, Some, None}
 use Rattle.std.proofs.Common.{arith, sym, ◌∙◌, ap, refl, subst}
 use Rattle.std.proofs.lemmas.List.{length_push}
-use Rattle.exact_forms.specs.Copositive.{IsMinimum, IsExtremeRay}
+use Rattle.exact_forms.specs.Copositive.{IsMinimum}
 use Rattle.exact_forms.proofs.Neighbours.{tightening_positive, neighbour_perfect, new_vector_listed, new_vector_new}
 use Rattle.symmetric_matrix.specs.Symmetric.{Symmetric, entry}
+use Rattle.symmetric_matrix.specs.Owed.{first_owed}
 use Rattle.symmetric_matrix.specs.Combining.{divisor_of}
 use Rattle.symmetric_matrix.proofs.Primitives.{primitive_lowest}
 use Rattle.unimodular_cone.specs.declared.Mode.{Mode}
@@ -20,25 +21,37 @@ use Rattle.contiguous.specs.declared.tightening.TightenFail.TheVariants as fail
 use Rattle.contiguous.specs.declared.tightening.SearchEnd.{SearchEnd}
 use Rattle.contiguous.specs.declared.tightening.SearchEnd.TheVariants as ending
 use Rattle.contiguous.specs.Tightenings.{Line, tighten_of, IsTightenable, IsRunAlong, IsCandidateAnswer, IsNeighbourAnswer, IsNeighbour, CanBeMadeAgain}
+use Rattle.contiguous.specs.Tightenings.{IsOperationOwed, neighbour_is_owed, tighten_ops}
 use Rattle.contiguous.specs.Tightenings.{NeighbourHolds, tightens_of, last_tighten}
 use Rattle.contiguous.specs.Making.{IsTightenMade, IsMakingRefused, IsCandidateReached, LeavesVector, IsPerfectFound, IsSearchEnd, IsRefusedBy, IsEndedBy}
 use Rattle.contiguous.proofs.Candidates.{candidate_is, candidate_size, is_tightening, is_candidate, divisor_nonzero, level_positive, is_reached, combined_at}
 use Rattle.contiguous.proofs.Candidates.{candidate_at, candidate_level_at}
-use Rattle.contiguous.proofs.Ways.{extended, IsMadeTo, IsOnWay, last_push, made_next, ready_next}
+use Rattle.contiguous.proofs.Ways.{IsRayLine, extended, IsMadeTo, IsOnWay, last_push, made_next, ready_next}
 
 pub run_of : (l : Line) (D : ℕ) (w : List ℕ) (budget : ℕ) (ts : List Tighten) → IsMadeTo l D w ts → length ts ≤ budget → IsRunAlong l D w budget ts
 run_of l D w budget ts m h = record { are = m.are; within = h; owes = m.owes }
+
+first_refused : (l : Line) (x : List ℕ) (o : NeighbourOp) → IsMakingRefused l x (fail.Wide o) → first_owed neighbour_is_owed (tighten_ops l x) ≡ Some o
+first_refused l x (op.Form y o) r = r
+first_refused l x (op.Scale o) r = r
+first_refused l x (op.Gram at) r = absurd r
+first_refused l x (op.Bound z) r = absurd r
 
 -- an operation of the next Tighten is owed
 pub ends_wide : (l : Line) (D : ℕ) (w : List ℕ) (budget k : ℕ) (ts : List Tighten) (x : List ℕ) (o : NeighbourOp) → IsOnWay l D w k ts x → k < budget
     → IsMakingRefused l x (fail.Wide o)
     → IsNeighbourAnswer l D w budget (neighbour.Wide o None ts)
-ends_wide l D w budget k ts x (op.Form y o) h less r =
-    (run_of l D w budget ts h.made (omega (arith, h.count)), (record { vector = x; due = h.ready.due; left = omega (arith, h.count); first = r }, refl))
-ends_wide l D w budget k ts x (op.Scale o) h less r =
-    (run_of l D w budget ts h.made (omega (arith, h.count)), (record { vector = x; due = h.ready.due; left = omega (arith, h.count); first = r }, refl))
-ends_wide l D w budget k ts x (op.Gram at) h less r = absurd r
-ends_wide l D w budget k ts x (op.Bound z) h less r = absurd r
+ends_wide l D w budget k ts x o h less r = by o (run_of l D w budget ts h.made (omega (arith, h.count))) (owed o r) r
+  where
+    owed : (o : NeighbourOp) → IsMakingRefused l x (fail.Wide o) → IsOperationOwed l D w budget ts o
+    owed o r = record { vector = x; due = h.ready.due; left = omega (arith, h.count); first = first_refused l x o r }
+
+    by : (o : NeighbourOp) → IsRunAlong l D w budget ts → IsOperationOwed l D w budget ts o → IsMakingRefused l x (fail.Wide o)
+        → IsNeighbourAnswer l D w budget (neighbour.Wide o None ts)
+    by (op.Form y o) m d r = (m, (d, refl))
+    by (op.Scale o) m d r = (m, (d, refl))
+    by (op.Gram at) m d r = absurd r
+    by (op.Bound z) m d r = absurd r
 
 -- the budget is used, and a Tighten is due
 pub ends_pivots : {l : Line} {D : ℕ} {w : List ℕ} {k : ℕ} {ts : List Tighten} {x : List ℕ} (budget : ℕ) → IsOnWay l D w k ts x → k ≡ budget
@@ -56,14 +69,13 @@ pub candidate_answer : (l : Line) (D : ℕ) (ts : List Tighten) (x : List ℕ) (
 candidate_answer l D ts x answer a = record { last = tighten_of l x; is_last = last_push ts (tighten_of l x); candidate_is = refl; answers = a }
 
 -- and the neighbour is a perfect matrix
-pub is_neighbour : (l : Line) (sizes : l.direction.size ≡ l.matrix.size) (vectors : List (List ℕ))
-    (M : IsMinimum l.matrix.size (entry l.matrix) l.mu vectors) (E : IsExtremeRay l.matrix.size (entry l.direction) vectors)
-    (D : ℕ) (ts : List Tighten) (x : List ℕ) (found : List (List ℕ)) → IsTightenable l x → IsPerfectFound (candidate_at l x) (candidate_level_at l x) D found
+pub is_neighbour : (l : Line) (vectors : List (List ℕ)) (R : IsRayLine l vectors) (D : ℕ)
+    (ts : List Tighten) (x : List ℕ) (found : List (List ℕ)) → IsTightenable l x → IsPerfectFound (candidate_at l x) (candidate_level_at l x) D found
     → IsNeighbour l vectors (candidate_at l x) (candidate_level_at l x) found (extended l ts x)
 unfolding tighten_of
-is_neighbour l sizes vectors M E D ts x found h f =
-    let T = is_tightening l sizes x h in
-    let C = is_candidate l sizes x h M.positive in
+is_neighbour l vectors R D ts x found h f =
+    let T = is_tightening l R.sizes x h in
+    let C = is_candidate l R.sizes x h R.minimum.positive in
     let size = candidate_size l (tighten_of l x) in
     let N : IsMinimum l.matrix.size (entry (candidate_at l x)) (candidate_level_at l x) found =
     subst (λ (n : ℕ). IsMinimum n (entry (candidate_at l x)) (candidate_level_at l x) found) size f.minimum in
@@ -71,23 +83,24 @@ is_neighbour l sizes vectors M E D ts x found h f =
       size = size;
       minimum = N;
       perfect =
-          neighbour_perfect l.matrix.size (entry l.matrix) (entry l.direction) l.mu vectors M E x (tighten_of l x).p (tighten_of l x).q _
+          neighbour_perfect l.matrix.size (entry l.matrix) (entry l.direction) l.mu vectors R.minimum R.extreme x (tighten_of l x).p (tighten_of l x).q _
           (candidate_level_at l x)
           (entry (candidate_at l x)) T C found N;
-      primitive = ap divisor_of (candidate_is l (tighten_of l x)) ∙ primitive_lowest (combined_at l x) (divisor_nonzero l sizes x h M.positive);
+      primitive = ap divisor_of (candidate_is l (tighten_of l x)) ∙ primitive_lowest (combined_at l x) (divisor_nonzero l R.sizes x h R.minimum.positive);
       last = tighten_of l x;
       is_last = last_push ts (tighten_of l x);
       tightening = T;
-      positive = tightening_positive l.matrix.size (entry l.matrix) (entry l.direction) l.mu vectors M E x (tighten_of l x).p (tighten_of l x).q T;
+      positive = tightening_positive l.matrix.size (entry l.matrix) (entry l.direction) l.mu vectors R.minimum R.extreme x (tighten_of l x).p
+          (tighten_of l x).q T;
       divisor = _;
       on_the_line = C;
       new_vector = record {
         listed =
-            new_vector_listed l.matrix.size (entry l.matrix) (entry l.direction) l.mu vectors M E x (tighten_of l x).p (tighten_of l x).q _
+            new_vector_listed l.matrix.size (entry l.matrix) (entry l.direction) l.mu vectors R.minimum R.extreme x (tighten_of l x).p (tighten_of l x).q _
             (candidate_level_at l x)
             (entry (candidate_at l x)) T C found N;
         fresh =
-            new_vector_new l.matrix.size (entry l.matrix) (entry l.direction) l.mu vectors M E x (tighten_of l x).p (tighten_of l x).q _
+            new_vector_new l.matrix.size (entry l.matrix) (entry l.direction) l.mu vectors R.minimum R.extreme x (tighten_of l x).p (tighten_of l x).q _
             (candidate_level_at l x)
             (entry (candidate_at l x)) T C;
       };
@@ -126,7 +139,10 @@ pub ends_searched : (l : Line) (D : ℕ) (w : List ℕ) (budget : ℕ) (ts : Lis
 ends_searched l D w budget ts x (ending.Perfect found) a m less s e =
     subst (IsNeighbourAnswer l D w budget) (sym e) (
       run_of l D w budget (extended l ts x) m (longer l ts x budget less),
-      record { search = record { last = tighten_of l x; is_last = last_push ts (tighten_of l x); candidate_is = refl; answers = s.answers }; at_level = refl },
+      record {
+        search = record { last = tighten_of l x; is_last = last_push ts (tighten_of l x); candidate_is = refl; answers = s.answers };
+        at_level = refl;
+      },
     )
 ends_searched l D w budget ts x (ending.Depth path) a m less s e =
     subst (IsNeighbourAnswer l D w budget) (sym e) (
@@ -148,18 +164,17 @@ ends_searched l D w budget ts x (ending.BoundWide z) a m less s e =
     )
 ends_searched l D w budget ts x ending.OutOfMemory a m less s e = subst (IsNeighbourAnswer l D w budget) (sym e) tt
 
-pub holds_searched : (l : Line) (sizes : l.direction.size ≡ l.matrix.size) (vectors : List (List ℕ))
-    (M : IsMinimum l.matrix.size (entry l.matrix) l.mu vectors) (E : IsExtremeRay l.matrix.size (entry l.direction) vectors)
-    (D : ℕ) (w : List ℕ) (ts : List Tighten) (x : List ℕ) (e : SearchEnd) (a : Neighbour) → IsMadeTo l D w (extended l ts x) → IsTightenable l x
+pub holds_searched : (l : Line) (vectors : List (List ℕ)) (R : IsRayLine l vectors) (D : ℕ) (w : List ℕ)
+    (ts : List Tighten) (x : List ℕ) (e : SearchEnd) (a : Neighbour) → IsMadeTo l D w (extended l ts x) → IsTightenable l x
     → IsSearchEnd (candidate_at l x) (candidate_level_at l x) D e
     → IsEndedBy e (candidate_at l x) (candidate_level_at l x) (extended l ts x) a
     → NeighbourHolds l vectors a
-holds_searched l sizes vectors M E D w ts x (ending.Perfect found) a m h s e =
-    subst (NeighbourHolds l vectors) (sym e) (m.falling, is_neighbour l sizes vectors M E D ts x found h s)
-holds_searched l sizes vectors M E D w ts x (ending.Depth path) a m h s e = subst (NeighbourHolds l vectors) (sym e) m.falling
-holds_searched l sizes vectors M E D w ts x (ending.Wide at) a m h s e = subst (NeighbourHolds l vectors) (sym e) m.falling
-holds_searched l sizes vectors M E D w ts x (ending.BoundWide z) a m h s e = subst (NeighbourHolds l vectors) (sym e) m.falling
-holds_searched l sizes vectors M E D w ts x ending.OutOfMemory a m h s e = subst (NeighbourHolds l vectors) (sym e) tt
+holds_searched l vectors R D w ts x (ending.Perfect found) a m h s e =
+    subst (NeighbourHolds l vectors) (sym e) (m.falling, is_neighbour l vectors R D ts x found h s)
+holds_searched l vectors R D w ts x (ending.Depth path) a m h s e = subst (NeighbourHolds l vectors) (sym e) m.falling
+holds_searched l vectors R D w ts x (ending.Wide at) a m h s e = subst (NeighbourHolds l vectors) (sym e) m.falling
+holds_searched l vectors R D w ts x (ending.BoundWide z) a m h s e = subst (NeighbourHolds l vectors) (sym e) m.falling
+holds_searched l vectors R D w ts x ending.OutOfMemory a m h s e = subst (NeighbourHolds l vectors) (sym e) tt
 
 pub again_searched : (l : Line) (D : ℕ) (w : List ℕ) (ts : List Tighten) (e : SearchEnd) (c : Symmetric) (z : ℤ) (a : Neighbour) → IsMadeTo l D w ts
     → IsEndedBy e c z ts a → CanBeMadeAgain l (tightens_of a)
@@ -205,9 +220,7 @@ module _ (l : Line) (ts : List Tighten) (x : List ℕ) (c : Symmetric) (z : ℤ)
 -- one Tighten more on the way along a ray from a perfect matrix
 pub record IsStepMade (l : Line) (vectors : List (List ℕ)) (D : ℕ) (w : List ℕ) (k : ℕ) (ts : List Tighten) (x : List ℕ) (made : Candidate) (z : ℤ)
     (us : List Tighten) : Type 0 where
-  pub sizes : l.direction.size ≡ l.matrix.size
-  pub minimum : IsMinimum l.matrix.size (entry l.matrix) l.mu vectors
-  pub extreme : IsExtremeRay l.matrix.size (entry l.direction) vectors
+  pub ray : IsRayLine l vectors
   pub way : IsOnWay l D w k ts x
   pub made_is : IsTightenMade l x made
   pub level_is : z ≡ made.level
@@ -219,7 +232,7 @@ module _ {l : Line} {vectors : List (List ℕ)} {D : ℕ} {w : List ℕ} {k : �
   here = appended_steps l ts us x made z s.made_is s.level_is s.steps_are
 
   longer_made : IsMadeTo l D w (extended l ts x)
-  longer_made = made_next l s.sizes vectors s.minimum s.extreme D w x ts s.way.made s.way.ready s.made_is.owes
+  longer_made = made_next l vectors s.ray D w x ts s.way.made s.way.ready s.made_is.owes
 
   -- one more Tighten
   pub goes_on : (y : List ℕ) → LeavesVector made.matrix z D y → IsOnWay l D w (k + 1) us y
@@ -227,7 +240,7 @@ module _ {l : Line} {vectors : List (List ℕ)} {D : ℕ} {w : List ℕ} {k : �
       subst (λ (us : List Tighten). IsOnWay l D w (k + 1) us y) (sym here.steps)
       record {
         made = longer_made;
-        ready = ready_next l s.sizes vectors s.minimum s.extreme D w x y ts s.way.ready.tightenable (vector_moved l ts x made.matrix z us here D y v);
+        ready = ready_next l vectors s.ray D w x y ts s.way.ready.tightenable (vector_moved l ts x made.matrix z us here D y v);
         count = length_push ts (tighten_of l x) ∙ ap (λ (k : ℕ). k + 1) s.way.count;
       }
 
@@ -239,7 +252,7 @@ module _ {l : Line} {vectors : List (List ℕ)} {D : ℕ} {w : List ℕ} {k : �
 
     pub ends_holds : NeighbourHolds l vectors a
     ends_holds =
-        holds_searched l s.sizes vectors s.minimum s.extreme D w ts x e a longer_made s.way.ready.tightenable (search_moved l ts x made.matrix z us here D e f)
+        holds_searched l vectors s.ray D w ts x e a longer_made s.way.ready.tightenable (search_moved l ts x made.matrix z us here D e f)
         (ended_moved l ts x made.matrix z us here e a b)
 
     pub ends_again : CanBeMadeAgain l (tightens_of a)

@@ -20,14 +20,10 @@ use Rattle.contiguous.specs.Tightenings.{Line, line_along, value_at, tighten_of,
 use Rattle.contiguous.proofs.Candidates.{vector_is, p_is, q_is, combined_at}
 use Rattle.contiguous.specs.Making.{IsValueRefused, scale_ops, IsScaled, IsScaleRefused, IsTightenMade, IsMakingRefused}
 
-tagged_some : (tag : IntOp → NeighbourOp) (xs : List IntOp) (o : IntOp) → ((o : IntOp) → neighbour_is_owed (tag o) ≡ is_owed o)
-    → first_owed is_owed xs ≡ Some o → first_owed neighbour_is_owed (map tag xs) ≡ Some (tag o)
-tagged_some tag xs o same h =
-    first_owed-map is_owed neighbour_is_owed tag xs same ∙ ap (λ f. elim f as (λ _. Option NeighbourOp) [ None ↦ None | Some op ↦ Some (tag op) ]) h
-
-tagged_none : (tag : IntOp → NeighbourOp) (xs : List IntOp) → ((o : IntOp) → neighbour_is_owed (tag o) ≡ is_owed o) → first_owed is_owed xs ≡ None
-    → first_owed neighbour_is_owed (map tag xs) ≡ None
-tagged_none tag xs same h =
+tagged : (tag : IntOp → NeighbourOp) (xs : List IntOp) (found : Option IntOp) → ((o : IntOp) → neighbour_is_owed (tag o) ≡ is_owed o)
+    → first_owed is_owed xs ≡ found
+    → first_owed neighbour_is_owed (map tag xs) ≡ elim found as (λ _. Option NeighbourOp) [ None ↦ None | Some op ↦ Some (tag op) ]
+tagged tag xs found same h =
     first_owed-map is_owed neighbour_is_owed tag xs same ∙ ap (λ f. elim f as (λ _. Option NeighbourOp) [ None ↦ None | Some op ↦ Some (tag op) ]) h
 
 module _ (l : Line) (w : List ℕ) where
@@ -35,7 +31,7 @@ module _ (l : Line) (w : List ℕ) where
   unfolding tighten_ops
   above_owed o h =
       first_owed-append_some neighbour_is_owed (map (op.Form w) (form_ops l.matrix w ++ form_ops l.direction w)) _ (op.Form w o)
-      (tagged_some (op.Form w) (form_ops l.matrix w ++ form_ops l.direction w) o (λ o. refl)
+      (tagged (op.Form w) (form_ops l.matrix w ++ form_ops l.direction w) (Some o) (λ o. refl)
       (first_owed-append_some is_owed (form_ops l.matrix w) (form_ops l.direction w) o h))
 
   below_owed : (o : IntOp) → first_owed is_owed (form_ops l.matrix w) ≡ None → first_owed is_owed (form_ops l.direction w) ≡ Some o
@@ -43,7 +39,7 @@ module _ (l : Line) (w : List ℕ) where
   unfolding tighten_ops
   below_owed o n h =
       first_owed-append_some neighbour_is_owed (map (op.Form w) (form_ops l.matrix w ++ form_ops l.direction w)) _ (op.Form w o)
-      (tagged_some (op.Form w) (form_ops l.matrix w ++ form_ops l.direction w) o (λ o. refl)
+      (tagged (op.Form w) (form_ops l.matrix w ++ form_ops l.direction w) (Some o) (λ o. refl)
       (first_owed-append_none is_owed (form_ops l.matrix w) (form_ops l.direction w) n ∙ h))
 
   rest_of : first_owed is_owed (form_ops l.matrix w) ≡ None → first_owed is_owed (form_ops l.direction w) ≡ None
@@ -51,7 +47,7 @@ module _ (l : Line) (w : List ℕ) where
   unfolding tighten_ops scale_ops
   rest_of n m =
       first_owed-append_none neighbour_is_owed (map (op.Form w) (form_ops l.matrix w ++ form_ops l.direction w)) _
-      (tagged_none (op.Form w) (form_ops l.matrix w ++ form_ops l.direction w) (λ o. refl)
+      (tagged (op.Form w) (form_ops l.matrix w ++ form_ops l.direction w) None (λ o. refl)
       (first_owed-append_none is_owed (form_ops l.matrix w) (form_ops l.direction w) n ∙ m))
 
   pub above_refused : (f : TightenFail) → IsValueRefused l.matrix w f → IsMakingRefused l w f
@@ -71,7 +67,7 @@ module _ (l : Line) (w : List ℕ) where
   pub scale_refused : (f : TightenFail) → first_owed is_owed (form_ops l.matrix w) ≡ None → first_owed is_owed (form_ops l.direction w) ≡ None
       → IsScaleRefused l w f → IsMakingRefused l w f
   scale_refused (fail.Wide (op.Form x o)) n m h = absurd h
-  scale_refused (fail.Wide (op.Scale o)) n m h = rest_of n m ∙ tagged_some op.Scale (scale_ops l w) o (λ o. refl) h
+  scale_refused (fail.Wide (op.Scale o)) n m h = rest_of n m ∙ tagged op.Scale (scale_ops l w) (Some o) (λ o. refl) h
   scale_refused (fail.Wide (op.Gram at)) n m h = absurd h
   scale_refused (fail.Wide (op.Bound z)) n m h = absurd h
   scale_refused fail.OutOfMemory n m h = tt
@@ -79,7 +75,7 @@ module _ (l : Line) (w : List ℕ) where
   pub scale_made : (c : Candidate) → first_owed is_owed (form_ops l.matrix w) ≡ None → first_owed is_owed (form_ops l.direction w) ≡ None → IsScaled l w c
       → IsTightenMade l w c
   scale_made c n m h =
-      record { step = h.step; matrix = h.matrix; level = h.level; owes = rest_of n m ∙ tagged_none op.Scale (scale_ops l w) (λ o. refl) h.owes }
+      record { step = h.step; matrix = h.matrix; level = h.level; owes = rest_of n m ∙ tagged op.Scale (scale_ops l w) None (λ o. refl) h.owes }
 
   -- ---- the level and the combination
   pub level_refused : (q mu : ℤ) (o : IntOp) → q ≡ (tighten_of l w).q → mu ≡ l.mu → answer is_owed (mul_op q mu ∷ []) (q *ℤ mu) ≡ Err o

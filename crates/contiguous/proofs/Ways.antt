@@ -116,16 +116,21 @@ pub record IsOnWay (l : Line) (D : ℕ) (w : List ℕ) (k : ℕ) (ts : List Tigh
   pub ready : IsReadyFor l D w ts x
   pub count : length ts ≡ k
 
-module _ (l : Line) (sizes : l.direction.size ≡ l.matrix.size) (vectors : List (List ℕ)) (M : IsMinimum l.matrix.size (entry l.matrix) l.mu vectors)
-    (E : IsExtremeRay l.matrix.size (entry l.direction) vectors) where
+-- the line runs from a matrix along an extreme ray of its minimum's vectors
+pub record IsRayLine (l : Line) (vectors : List (List ℕ)) : Type 0 where
+  pub sizes : l.direction.size ≡ l.matrix.size
+  pub minimum : IsMinimum l.matrix.size (entry l.matrix) l.mu vectors
+  pub extreme : IsExtremeRay l.matrix.size (entry l.direction) vectors
+
+module _ (l : Line) (vectors : List (List ℕ)) (R : IsRayLine l vectors) where
   pub tightenable : (x : List ℕ) → length x ≡ l.matrix.size → IsNonzero l.matrix.size x → value_at l.direction x <ℤ pos 0 → IsTightenable l x
   tightenable x size nonzero below = record {
     size = size;
     nonzero = nonzero;
     below = below;
     above =
-        above_minimum l.matrix.size (entry l.matrix) (entry l.direction) l.mu vectors M E x size nonzero
-        (subst (λ (n : ℕ). form n (entry l.direction) (coordinate x) <ℤ pos 0) sizes below);
+        above_minimum l.matrix.size (entry l.matrix) (entry l.direction) l.mu vectors R.minimum R.extreme x size nonzero
+        (subst (λ (n : ℕ). form n (entry l.direction) (coordinate x) <ℤ pos 0) R.sizes below);
   }
 
   pub starts : (D : ℕ) (w : List ℕ) → IsTightenable l w → IsOnWay l D w 0 [] w
@@ -136,15 +141,16 @@ module _ (l : Line) (sizes : l.direction.size ≡ l.matrix.size) (vectors : List
   falls_from : (t : Tighten) (x : List ℕ) → IsTightenable l t.vector → t ≡ tighten_of l t.vector → IsTightenable l x → value_at (candidate l t) x <ℤ level l t
       → ((tighten_of l x).p *ℤ t.q) <ℤ (t.p *ℤ (tighten_of l x).q)
   falls_from t x h e k less =
-      let T = is_tightening l sizes t.vector h in
-      let C = is_candidate l sizes t.vector h M.positive in
+      let T = is_tightening l R.sizes t.vector h in
+      let C = is_candidate l R.sizes t.vector h R.minimum.positive in
       let moved : form l.matrix.size (entry (candidate_at l t.vector)) (coordinate x) <ℤ candidate_level_at l t.vector =
       subst (λ (n : ℕ). form n (entry (candidate_at l t.vector)) (coordinate x) <ℤ candidate_level_at l t.vector) (candidate_size l (tighten_of l t.vector))
       (subst (λ (t : Tighten). value_at (candidate l t) x <ℤ level l t) e less) in
       subst (λ (t : Tighten). ((tighten_of l x).p *ℤ t.q) <ℤ (t.p *ℤ (tighten_of l x).q)) (sym e)
-      (lambda_falls l.matrix.size (entry l.matrix) (entry l.direction) l.mu vectors M E t.vector (tighten_of l t.vector).p (tighten_of l t.vector).q _
+      (lambda_falls l.matrix.size (entry l.matrix) (entry l.direction) l.mu vectors R.minimum R.extreme t.vector (tighten_of l t.vector).p
+      (tighten_of l t.vector).q _
       (candidate_level_at l t.vector) (entry (candidate_at l t.vector)) T C
-      x (tighten_of l x).p (tighten_of l x).q moved (is_tightening l sizes x k))
+      x (tighten_of l x).p (tighten_of l x).q moved (is_tightening l R.sizes x k))
 
   falling_next : (ts : List Tighten) (x : List ℕ) → IsFalling ts → CanBeMadeAgain l ts → IsTightenable l x → IsBelowLast l ts x → IsFalling (extended l ts x)
   falling_next [] x f a k b = tt
@@ -176,14 +182,14 @@ module _ (l : Line) (sizes : l.direction.size ≡ l.matrix.size) (vectors : List
       let long : length y ≡ l.matrix.size = v.size ∙ size in
       let nonzero : IsNonzero l.matrix.size y = subst (λ (n : ℕ). IsNonzero n y) size v.nonzero in
       let less = subst (λ (n : ℕ). form n (entry (candidate_at l x)) (coordinate y) <ℤ candidate_level_at l x) size v.below in
-      let below = below_again l.matrix.size (entry l.matrix) (entry l.direction) l.mu vectors M E x (tighten_of l x).p (tighten_of l x).q _
+      let below = below_again l.matrix.size (entry l.matrix) (entry l.direction) l.mu vectors R.minimum R.extreme x (tighten_of l x).p (tighten_of l x).q _
       (candidate_level_at l x)
       (entry (candidate_at l x))
-      (is_tightening l sizes x h) (is_candidate l sizes x h M.positive) y long nonzero less in
+      (is_tightening l R.sizes x h) (is_candidate l R.sizes x h R.minimum.positive) y long nonzero less in
       record {
         due = subst (DueAt l D w y) (sym (last_push ts (tighten_of l x)))
             record { answer = v.answer; answers = v.answers; calls = v.calls };
-        tightenable = tightenable y long nonzero (subst (λ (n : ℕ). form n (entry l.direction) (coordinate y) <ℤ pos 0) (sym sizes) below);
+        tightenable = tightenable y long nonzero (subst (λ (n : ℕ). form n (entry l.direction) (coordinate y) <ℤ pos 0) (sym R.sizes) below);
         below = subst (BelowAt l y) (sym (last_push ts (tighten_of l x))) v.below;
       }
 

@@ -1,5 +1,5 @@
 -- The ray 0 -1 / -1 2 of the first matrix of two rows.
-use Rattle.std.specs.Prelude.{◌≡◌, ◌≢◌, ℕ, zero, suc, ◌+◌, ◌<◌, ℤ, pos, negsuc, neg_ℤ, ◌+ℤ◌, ◌-ℤ◌, ◌*ℤ◌, ◌≤ℤ◌, ◌<ℤ◌, List, [], ◌∷◌, length, slice_index_or}
+use Rattle.std.specs.Prelude.{◌≡◌, ℕ, zero, suc, ◌+◌, ◌<◌, ℤ, pos, negsuc, neg_ℤ, ◌+ℤ◌, ◌-ℤ◌, ◌*ℤ◌, ◌≤ℤ◌, ◌<ℤ◌, List, [], ◌∷◌, length, slice_index_or}
 use Rattle.std.specs.List.{All}
 use Rattle.std.proofs.Common.{arith, sym, ◌∙◌, ap, refl, subst}
 use Rattle.std.proofs.lemmas.Int.{ints}
@@ -8,7 +8,7 @@ use Rattle.commutative_ring.proofs.Expand.{expand, linear, two_times}
 use Rattle.commutative_ring.proofs.Laws.{zero_mul_ℤ, neg_is_mul}
 use Rattle.exact_forms.specs.Forms.{form, IsSymmetric}
 use Rattle.exact_forms.specs.Triangles.{triangle, entry_in}
-use Rattle.exact_forms.specs.Vectors.{coordinate, IsNonzero}
+use Rattle.exact_forms.specs.Vectors.{coordinate}
 use Rattle.exact_forms.specs.Copositive.{Matrix, IsMinimum, IsPerfect, IsExtremeRay}
 use Rattle.exact_forms.proofs.Order.{positive_mul}
 use Rattle.exact_forms.proofs.TwoRows.{at_two, form_two}
@@ -52,23 +52,22 @@ steep x y positive less = subst (λ (z : ℤ). z <ℤ pos 0) (sym (value_is x y)
 
 module _ (z : Matrix) (s : IsSymmetric 2 z) (vanishes : All (λ v. form 2 (entry first_ray) (coordinate v) ≡ pos 0 → form 2 z (coordinate v) ≡ pos 0) three)
   where
-    first : at_two z (pos 1) (pos 0) ≡ pos 0
+    zeros : (at_two z (pos 1) (pos 0) ≡ pos 0) × (at_two z (pos 1) (pos 1) ≡ pos 0)
     unfolding three
-    first = sym (form_two z 1 0) ∙ vanishes 1 [] (omega arith) (value_is 1 0)
-
-    both : at_two z (pos 1) (pos 1) ≡ pos 0
-    unfolding three
-    both = sym (form_two z 1 1) ∙ vanishes 2 [] (omega arith) (value_is 1 1)
+    zeros = (
+      sym (form_two z 1 0) ∙ vanishes 1 [] (omega arith) (value_is 1 0),
+      sym (form_two z 1 1) ∙ vanishes 2 [] (omega arith) (value_is 1 1),
+    )
 
     mirror : z 0 1 ≡ z 1 0
     mirror = s 0 1 (omega arith) (omega arith)
 
     multiple : (i j : ℕ) → i < 2 → j < 2 → pos 1 *ℤ z i j ≡ neg_ℤ (z 0 1) *ℤ entry first_ray i j
     unfolding entry entry_in triangle
-    multiple zero zero li lj = let a = first in omega (arith, ints)
+    multiple zero zero li lj = let a = zeros.0 in omega (arith, ints)
     multiple zero (suc zero) li lj = omega (arith, ints)
     multiple (suc zero) zero li lj = let d = mirror in omega (arith, ints)
-    multiple (suc zero) (suc zero) li lj = let a = first in let c = both in let d = mirror in omega (arith, ints)
+    multiple (suc zero) (suc zero) li lj = let a = zeros.0 in let c = zeros.1 in let d = mirror in omega (arith, ints)
     multiple zero (suc (suc j)) li lj = absurd (omega arith)
     multiple (suc zero) (suc (suc j)) li lj = absurd (omega arith)
     multiple (suc (suc i)) j li lj = absurd (omega arith)
@@ -96,31 +95,37 @@ first_ray_extreme = subst (λ (vs : List (List ℕ)). IsExtremeRay 2 (entry firs
 }
 
 -- ---- what the way asks
-module _ (q r : Symmetric) (vectors : List (List ℕ)) (m : ℤ) (q_is : q ≡ first_matrix 2) (r_is : r ≡ first_ray) (vectors_are : vectors ≡ start_list 2)
-    (m_is : m ≡ pos 2) where
+pub record IsFirstWay (q r : Symmetric) (vectors : List (List ℕ)) (m : ℤ) : Type 0 where
+  pub matrix_is : q ≡ first_matrix 2
+  pub ray_is : r ≡ first_ray
+  pub vectors_are : vectors ≡ start_list 2
+  pub minimum_is : m ≡ pos 2
+
+module _ (q r : Symmetric) (vectors : List (List ℕ)) (m : ℤ) (f : IsFirstWay q r vectors m) where
   size_is : q.size ≡ 2
   unfolding first_matrix
-  size_is = ap (λ (q : Symmetric). q.size) q_is
+  size_is = ap (λ (q : Symmetric). q.size) f.matrix_is
 
   pub sizes : r.size ≡ q.size
-  sizes = ap (λ (r : Symmetric). r.size) r_is ∙ sym size_is
+  sizes = ap (λ (r : Symmetric). r.size) f.ray_is ∙ sym size_is
 
   pub minimum : IsMinimum q.size (entry q) m vectors
   unfolding first_matrix
   minimum =
-      subst (λ (q : Symmetric). IsMinimum q.size (entry q) m vectors) (sym q_is)
-      (subst (λ (m : ℤ). IsMinimum 2 (entry (first_matrix 2)) m vectors) (sym m_is)
-      (subst (λ (vectors : List (List ℕ)). IsMinimum 2 (entry (first_matrix 2)) (pos 2) vectors) (sym vectors_are) (first_is_minimum 2 (omega arith))))
+      subst (λ (q : Symmetric). IsMinimum q.size (entry q) m vectors) (sym f.matrix_is)
+      (subst (λ (m : ℤ). IsMinimum 2 (entry (first_matrix 2)) m vectors) (sym f.minimum_is)
+      (subst (λ (vectors : List (List ℕ)). IsMinimum 2 (entry (first_matrix 2)) (pos 2) vectors) (sym f.vectors_are) (first_is_minimum 2 (omega arith))))
 
   pub perfect : IsPerfect q.size vectors
-  perfect = subst (λ (n : ℕ). IsPerfect n vectors) (sym size_is)
-      (subst (λ (vectors : List (List ℕ)). IsPerfect 2 vectors) (sym vectors_are) (start_list_is_perfect 2))
+  perfect =
+      subst (λ (n : ℕ). IsPerfect n vectors) (sym size_is)
+      (subst (λ (vectors : List (List ℕ)). IsPerfect 2 vectors) (sym f.vectors_are) (start_list_is_perfect 2))
 
   pub extreme : IsExtremeRay q.size (entry r) vectors
   extreme =
       subst (λ (n : ℕ). IsExtremeRay n (entry r) vectors) (sym size_is)
-      (subst (λ (r : Symmetric). IsExtremeRay 2 (entry r) vectors) (sym r_is)
-      (subst (λ (vectors : List (List ℕ)). IsExtremeRay 2 (entry first_ray) vectors) (sym vectors_are) first_ray_extreme))
+      (subst (λ (r : Symmetric). IsExtremeRay 2 (entry r) vectors) (sym f.ray_is)
+      (subst (λ (vectors : List (List ℕ)). IsExtremeRay 2 (entry first_ray) vectors) (sym f.vectors_are) first_ray_extreme))
 
   pub positive : pos 1 ≤ℤ m
   positive = minimum.positive
@@ -130,7 +135,8 @@ module _ (q r : Symmetric) (vectors : List (List ℕ)) (m : ℤ) (q_is : q ≡ f
 
   module _ (w : List ℕ) (x y : ℕ) (w_is : w ≡ x ∷ y ∷ []) (second : 0 < y) (greater : y < x) where
     pub below : value_at r w <ℤ pos 0
-    below = subst (λ (r : Symmetric). value_at r w <ℤ pos 0) (sym r_is)
+    below =
+        subst (λ (r : Symmetric). value_at r w <ℤ pos 0) (sym f.ray_is)
         (subst (λ (w : List ℕ). value_at first_ray w <ℤ pos 0) (sym w_is) (steep x y second greater))
 
 -- its entries fit

@@ -187,8 +187,12 @@ near_step plain options words k named lt fits near = by_role (wanted options wor
       | inr other ↦ plain_step plain options words k named is other fits near
     ]
 
+-- the words before place k can be read
+abbrev AreReadBelow : List Form → List OptionRow → List (List ℕ) → ℕ → Type 0
+AreReadBelow plain options words k = (j : ℕ) → j < k → can_be_read plain options words j ≡ true
+
 near_from : (plain : List Form) (options : List OptionRow) (words : List (List ℕ)) (k : ℕ) → list_all (λ o. is_option o.name) options ≡ true → k ≤ length words
-    → ((j : ℕ) → j < k → can_be_read plain options words j ≡ true) → IsNear plain options words k
+    → AreReadBelow plain options words k → IsNear plain options words k
 unfolding wanted plain_before
 near_from plain options words zero named le fits = record { far = omega arith; plains = omega arith }
 near_from plain options words (suc k) named le fits =
@@ -219,7 +223,7 @@ found_first p a (suc n) k found = elim (cases_Bool (p a)) [
 
 -- words that can be read are at most all plain arguments, all options and their values
 pub read-le : (plain : List Form) (options : List OptionRow) (words : List (List ℕ)) (k : ℕ) → list_all (λ o. is_option o.name) options ≡ true
-    → k ≤ length words → ((j : ℕ) → j < k → can_be_read plain options words j ≡ true) → k ≤ length plain + 2 * length options
+    → k ≤ length words → AreReadBelow plain options words k → k ≤ length plain + 2 * length options
 read-le plain options words k named le fits =
     let near = near_from plain options words k named le fits in
     omega (arith, near.far, near.plains, count_by-le-length (λ o. list_any (λ word. bytes_eq word o.name) (take k words)) options)

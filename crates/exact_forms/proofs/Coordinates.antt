@@ -7,7 +7,7 @@ use Rattle.commutative_ring.proofs.SmallCases.{same_or_not}
 use Rattle.exact_forms.specs.Slacks.{replaced}
 use Rattle.exact_forms.specs.Rational.{Rational, whole, inverse, neg_ℚ, ◌+ℚ◌, ◌*ℚ◌, ◌/ℚ◌}
 use Rattle.exact_forms.specs.Sums.{sum_ℚ}
-use Rattle.exact_forms.proofs.Rational.{ring_ℚ, div-mul, mul-inverse, one_mul_ℚ, zero_mul_ℚ}
+use Rattle.exact_forms.proofs.Rational.{ring_ℚ, same_by_difference, div-mul, mul-inverse, one_mul_ℚ, zero_mul_ℚ}
 use Rattle.exact_forms.proofs.Slacks.{replaced_here, replaced_other}
 use Rattle.exact_forms.specs.Coordinates.{Columns, IsCoordinates, IsIndependent, IsBasis, mark, swapped, exchanged_coordinates}
 
@@ -31,15 +31,21 @@ no_zero_product x y ne e =
     ∙ zero_mul_ℚ (inverse y.num y.den)
 
 module _ (A : Columns) where
+  sum_linear : (c d : ℕ → Rational) (s : Rational) (a b : ℕ)
+      → sum_ℚ A.count (λ k. (c k +ℚ s *ℚ d k) *ℚ A.entry k a b)
+      ≡ sum_ℚ A.count (λ k. c k *ℚ A.entry k a b) +ℚ s *ℚ sum_ℚ A.count (λ k. d k *ℚ A.entry k a b)
+  sum_linear c d s a b =
+      sum_ℚ_same A.count _ _ (λ k m. ring_ℚ (c k ∷ d k ∷ s ∷ A.entry k a b ∷ []) ((v0 ⊕ v2 ⊗ v1) ⊗ v3) (v0 ⊗ v3 ⊕ v2 ⊗ (v1 ⊗ v3)) refl)
+      ∙ sum_ℚ-add A.count (λ k. c k *ℚ A.entry k a b) (λ k. s *ℚ (d k *ℚ A.entry k a b))
+      ∙ ap (λ w. sum_ℚ A.count (λ k. c k *ℚ A.entry k a b) +ℚ w) (sym (mul-sum_ℚ s A.count (λ k. d k *ℚ A.entry k a b)))
+
   -- c + s·d writes x + s·y
   pub coordinates_add : (B : ℕ → Bool) (c d : ℕ → Rational) (x y : ℕ → ℕ → Rational) (s : Rational) → IsCoordinates A B c x → IsCoordinates A B d y
       → IsCoordinates A B (λ k. c k +ℚ s *ℚ d k) (λ a b. x a b +ℚ s *ℚ y a b)
   coordinates_add B c d x y s hc hd = record {
     outside = λ k l b. ap₂ (λ v w. v +ℚ s *ℚ w) (hc.outside k l b) (hd.outside k l b) ∙ ring_ℚ (s ∷ []) (num (pos 0) ⊕ v0 ⊗ num (pos 0)) (num (pos 0)) refl;
     sum = λ a b la lb.
-        sum_ℚ_same A.count _ _ (λ k m. ring_ℚ (c k ∷ d k ∷ s ∷ A.entry k a b ∷ []) ((v0 ⊕ v2 ⊗ v1) ⊗ v3) (v0 ⊗ v3 ⊕ v2 ⊗ (v1 ⊗ v3)) refl)
-        ∙ sum_ℚ-add A.count (λ k. c k *ℚ A.entry k a b) (λ k. s *ℚ (d k *ℚ A.entry k a b))
-        ∙ ap₂ (λ v w. v +ℚ w) (hc.sum a b la lb) (sym (mul-sum_ℚ s A.count (λ k. d k *ℚ A.entry k a b)) ∙ ap (λ w. s *ℚ w) (hd.sum a b la lb));
+        sum_linear c d s a b ∙ ap₂ (λ v w. v +ℚ s *ℚ w) (hc.sum a b la lb) (hd.sum a b la lb);
   }
 
   -- a combination of vectors has the combination of their coordinates
@@ -68,11 +74,10 @@ module _ (A : Columns) where
   pub coordinates_unique : (B : ℕ → Bool) (c d : ℕ → Rational) (x y : ℕ → ℕ → Rational) → IsIndependent A B → IsCoordinates A B c x → IsCoordinates A B d y
       → ((a b : ℕ) → a < A.size → b < A.size → x a b ≡ y a b) → (k : ℕ) → k < A.count → c k ≡ d k
   coordinates_unique B c d x y free hc hd same k l =
-      let e : c k +ℚ whole (negsuc 0) *ℚ d k ≡ whole (pos 0) = free.only_zero (λ k. c k +ℚ whole (negsuc 0) *ℚ d k)
+      same_by_difference (c k) (d k) (free.only_zero (λ k. c k +ℚ whole (negsuc 0) *ℚ d k)
       (coordinates_same B _ _ _ (λ a b la lb. ap (λ w. w +ℚ whole (negsuc 0) *ℚ y a b) (same a b la lb)
       ∙ ring_ℚ (y a b ∷ []) (v0 ⊕ num (negsuc 0) ⊗ v0) (num (pos 0)) refl)
-      (coordinates_add B c d x y (whole (negsuc 0)) hc hd)) k l in
-      ring_ℚ (c k ∷ d k ∷ []) v0 ((v0 ⊕ num (negsuc 0) ⊗ v1) ⊕ v1) refl ∙ ap (λ w. w +ℚ d k) e ∙ ring_ℚ (d k ∷ []) (num (pos 0) ⊕ v0) v0 refl
+      (coordinates_add B c d x y (whole (negsuc 0)) hc hd)) k l)
 
   -- a column of the basis has the coordinate 1 at itself
   pub coordinates_mark : (B : ℕ → Bool) (e : ℕ) → e < A.count → B e ≡ true → IsCoordinates A B (mark e) (A.entry e)
@@ -125,10 +130,7 @@ module _ (A : Columns) where
       → ((a b : ℕ) → a < A.size → b < A.size → sum_ℚ A.count (λ k. c k *ℚ A.entry k a b) ≡ x a b) → (a b : ℕ) → a < A.size → b < A.size
       → sum_ℚ A.count (λ k. (c k +ℚ s *ℚ lost coord e k) *ℚ A.entry k a b) ≡ x a b
   with_lost B coord e c x s le h hc a b la lb =
-      sum_ℚ_same A.count _ _ (λ k m. ring_ℚ (c k ∷ lost coord e k ∷ s ∷ A.entry k a b ∷ []) ((v0 ⊕ v2 ⊗ v1) ⊗ v3) (v0 ⊗ v3 ⊕ v2 ⊗ (v1 ⊗ v3)) refl)
-      ∙ sum_ℚ-add A.count (λ k. c k *ℚ A.entry k a b) (λ k. s *ℚ (lost coord e k *ℚ A.entry k a b))
-      ∙ ap₂ (λ v w. v +ℚ w) (hc a b la lb) (sym (mul-sum_ℚ s A.count (λ k. lost coord e k *ℚ A.entry k a b))
-      ∙ ap (λ w. s *ℚ w) (lost_sum B coord e le h a b la lb))
+      sum_linear c (lost coord e) s a b ∙ ap₂ (λ v w. v +ℚ s *ℚ w) (hc a b la lb) (lost_sum B coord e le h a b la lb)
       ∙ ring_ℚ (x a b ∷ s ∷ []) (v0 ⊕ v1 ⊗ num (pos 0)) v0 refl
 
   pub exchange_written : (B : ℕ → Bool) (coord : ℕ → ℕ → Rational) (l e : ℕ) → e < A.count → l ≢ e → coord e l ≢ whole (pos 0) → IsBasis A B coord

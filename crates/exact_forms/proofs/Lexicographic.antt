@@ -40,19 +40,17 @@ lex_add n f g p q = by (three_ways p.place q.place)
     none_here : (k : ℕ) → f k ≡ whole (pos 0) → g k ≡ whole (pos 0) → f k +ℚ g k ≡ whole (pos 0)
     none_here k a b = ap₂ (λ x y. x +ℚ y) a b ∙ ring_ℚ [] (num (pos 0) ⊕ num (pos 0)) (num (pos 0)) refl
 
+    first : ((k : ℕ) → k < p.place → g k ≡ whole (pos 0)) → IsNonnegative (g p.place) → IsLexPositive n (λ k. f k +ℚ g k)
+    first zeros h = record {
+      place = p.place;
+      within = p.within;
+      before = λ k m. none_here k (p.before k m) (zeros k m);
+      there = positive_add (f p.place) (g p.place) p.there h;
+    }
+
     by : ((p.place < q.place) ⊎ ((p.place ≡ q.place) ⊎ (q.place < p.place))) → IsLexPositive n (λ k. f k +ℚ g k)
-    by (inl l) = record {
-      place = p.place;
-      within = p.within;
-      before = λ k m. none_here k (p.before k m) (q.before k (omega arith));
-      there = positive_add (f p.place) (g p.place) p.there (nonneg_zero (g p.place) (q.before p.place l));
-    }
-    by (inr (inl e)) = record {
-      place = p.place;
-      within = p.within;
-      before = λ k m. none_here k (p.before k m) (q.before k (omega arith));
-      there = positive_add (f p.place) (g p.place) p.there (positive_nonneg (g p.place) (subst (λ k. IsPositive (g k)) (sym e) q.there));
-    }
+    by (inl l) = first (λ k m. q.before k (omega arith)) (nonneg_zero (g p.place) (q.before p.place l))
+    by (inr (inl e)) = first (λ k m. q.before k (omega arith)) (positive_nonneg (g p.place) (subst (λ k. IsPositive (g k)) (sym e) q.there))
     by (inr (inr l)) = record {
       place = q.place;
       within = q.within;

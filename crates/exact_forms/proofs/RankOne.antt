@@ -7,7 +7,7 @@ use Rattle.exact_forms.specs.Sums.{sum_ℚ}
 use Rattle.exact_forms.specs.Vectors.{coordinate}
 use Rattle.exact_forms.specs.Coordinates.{Columns, IsCoordinates, IsIndependent, mark}
 use Rattle.exact_forms.specs.RankOne.{rank_one_sum, AreCoordinates, AreIndependent}
-use Rattle.exact_forms.proofs.Rational.{ring_ℚ}
+use Rattle.exact_forms.proofs.Rational.{ring_ℚ, same_by_difference}
 use Rattle.exact_forms.proofs.RationalSums.{sum_ℚ_same, sum_ℚ-add, mul-sum_ℚ, sum_ℚ_one}
 use Rattle.exact_forms.proofs.Slacks.{replaced_here, replaced_other}
 use Rattle.exact_forms.proofs.Coordinates.{mul_zero_ℚ, coordinates_total, coordinates_same, coordinates_mark}
@@ -41,13 +41,12 @@ rank_one_sum_linear vectors s c d i j =
 pub coordinates_agree : (n : ℕ) (vectors : List (List ℕ)) (c d : ℕ → Rational) (a : ℕ → ℕ → Rational) → AreIndependent n vectors
     → AreCoordinates n vectors c a → AreCoordinates n vectors d a → (k : ℕ) → k < length vectors → c k ≡ d k
 coordinates_agree n vectors c d a free hc hd k l =
-    let e : c k +ℚ whole (negsuc 0) *ℚ d k ≡ whole (pos 0) = free.only_zero (λ k. c k +ℚ whole (negsuc 0) *ℚ d k) record {
+    same_by_difference (c k) (d k) (free.only_zero (λ k. c k +ℚ whole (negsuc 0) *ℚ d k) record {
       sum = λ i j li lj.
           rank_one_sum_linear vectors (whole (negsuc 0)) c d i j
           ∙ ap₂ (λ v w. v +ℚ whole (negsuc 0) *ℚ w) (hc.sum i j li lj) (hd.sum i j li lj)
           ∙ ring_ℚ (a i j ∷ []) (v0 ⊕ num (negsuc 0) ⊗ v0) (num (pos 0)) refl;
-    } k l in
-    ring_ℚ (c k ∷ d k ∷ []) v0 ((v0 ⊕ num (negsuc 0) ⊗ v1) ⊕ v1) refl ∙ ap (λ w. w +ℚ d k) e ∙ ring_ℚ (d k ∷ []) (num (pos 0) ⊕ v0) v0 refl
+    } k l)
 
 -- vectors whose matrices are different columns of a free set are independent
 pub independent_of_free : (A : Columns) (B : ℕ → Bool) (vectors : List (List ℕ)) (column : ℕ → ℕ) → IsIndependent A B

@@ -102,13 +102,21 @@ pub by_ratio : (P : Rational → Type 0) → ((p : ℤ) (d : ℕ) → 0 < d → 
 by_ratio P h x = subst P (ratio_parts x) (h x.num x.den (den_positive x))
 
 -- ---- the operations at fractions
-pub add-ratio : (p r : ℤ) (d e : ℕ) → 0 < d → 0 < e → ratio p d +ℚ ratio r e ≡ ratio (p *ℤ pos e +ℤ r *ℤ pos d) (d * e)
-unfolding ◌+ℚ◌
-add-ratio p r d e hd he =
+-- both parts of a result, whatever fractions the operands were
+at_fractions : (f : ℤ → ℤ → ℤ → ℤ → ℤ)
+    → ((n k m l p r d e : ℤ) → n *ℤ d ≡ p *ℤ k → m *ℤ e ≡ r *ℤ l → f n k m l *ℤ (d *ℤ e) ≡ f p d r e *ℤ (k *ℤ l))
+    → (p r : ℤ) (d e : ℕ) → 0 < d → 0 < e
+    → ratio (f (ratio p d).num (pos (ratio p d).den) (ratio r e).num (pos (ratio r e).den)) ((ratio p d).den * (ratio r e).den)
+    ≡ ratio (f p (pos d) r (pos e)) (d * e)
+at_fractions f join p r d e hd he =
     let x : Rational = ratio p d in
     let y : Rational = ratio r e in
     ratio_same _ _ (x.den * y.den) (d * e) (mul-pos (den_positive x) (den_positive y)) (mul-pos hd he)
     (join x.num (pos x.den) y.num (pos y.den) p r (pos d) (pos e) (ratio_value p d hd) (ratio_value r e he))
+
+pub add-ratio : (p r : ℤ) (d e : ℕ) → 0 < d → 0 < e → ratio p d +ℚ ratio r e ≡ ratio (p *ℤ pos e +ℤ r *ℤ pos d) (d * e)
+unfolding ◌+ℚ◌
+add-ratio = at_fractions (λ n k m l. n *ℤ l +ℤ m *ℤ k) join
   where
     join : (n k m l p r d e : ℤ) → n *ℤ d ≡ p *ℤ k → m *ℤ e ≡ r *ℤ l → (n *ℤ l +ℤ m *ℤ k) *ℤ (d *ℤ e) ≡ (p *ℤ e +ℤ r *ℤ d) *ℤ (k *ℤ l)
     join n k m l p r d e h i =
@@ -118,11 +126,7 @@ add-ratio p r d e hd he =
 
 pub mul-ratio : (p r : ℤ) (d e : ℕ) → 0 < d → 0 < e → ratio p d *ℚ ratio r e ≡ ratio (p *ℤ r) (d * e)
 unfolding ◌*ℚ◌
-mul-ratio p r d e hd he =
-    let x : Rational = ratio p d in
-    let y : Rational = ratio r e in
-    ratio_same _ _ (x.den * y.den) (d * e) (mul-pos (den_positive x) (den_positive y)) (mul-pos hd he)
-    (join x.num (pos x.den) y.num (pos y.den) p r (pos d) (pos e) (ratio_value p d hd) (ratio_value r e he))
+mul-ratio = at_fractions (λ n k m l. n *ℤ m) join
   where
     join : (n k m l p r d e : ℤ) → n *ℤ d ≡ p *ℤ k → m *ℤ e ≡ r *ℤ l → (n *ℤ m) *ℤ (d *ℤ e) ≡ (p *ℤ r) *ℤ (k *ℤ l)
     join n k m l p r d e h i =
@@ -146,6 +150,10 @@ pub mul_comm_ℚ : (x y : Rational) → x *ℚ y ≡ y *ℚ x
 unfolding ◌*ℚ◌
 mul_comm_ℚ x y = ap₂ ratio (*ℤ_comm x.num y.num) (mul_comm x.den y.den)
 
+-- over a product of three denominators
+over_three : (a b : ℤ) (d e f : ℕ) → 0 < d → 0 < e → 0 < f → a *ℤ pos (d * (e * f)) ≡ b *ℤ pos (d * e * f) → ratio a (d * e * f) ≡ ratio b (d * (e * f))
+over_three a b d e f hd he hf h = ratio_same a b (d * e * f) (d * (e * f)) (mul-pos (mul-pos hd he) hf) (mul-pos hd (mul-pos he hf)) h
+
 pub add_assoc_ℚ : (x y z : Rational) → (x +ℚ y) +ℚ z ≡ x +ℚ (y +ℚ z)
 add_assoc_ℚ x y z =
     by_ratio (λ x. (x +ℚ y) +ℚ z ≡ x +ℚ (y +ℚ z)) (λ p d hd.
@@ -156,7 +164,7 @@ add_assoc_ℚ x y z =
     at_parts p r s d e f hd he hf =
         ap (λ w. w +ℚ ratio s f) (add-ratio p r d e hd he)
         ∙ add-ratio _ s (d * e) f (mul-pos hd he) hf
-        ∙ ratio_same _ _ (d * e * f) (d * (e * f)) (mul-pos (mul-pos hd he) hf) (mul-pos hd (mul-pos he hf))
+        ∙ over_three _ _ d e f hd he hf
         (ring (p ∷ r ∷ s ∷ pos d ∷ pos e ∷ pos f ∷ []) (((v0 ⊗ v4 ⊕ v1 ⊗ v3) ⊗ v5 ⊕ v2 ⊗ (v3 ⊗ v4)) ⊗ (v3 ⊗ (v4 ⊗ v5)))
         ((v0 ⊗ (v4 ⊗ v5) ⊕ (v1 ⊗ v5 ⊕ v2 ⊗ v4) ⊗ v3) ⊗ (v3 ⊗ v4 ⊗ v5)) refl)
         ∙ sym (add-ratio p _ d (e * f) hd (mul-pos he hf))
@@ -172,7 +180,7 @@ mul_assoc_ℚ x y z =
     at_parts p r s d e f hd he hf =
         ap (λ w. w *ℚ ratio s f) (mul-ratio p r d e hd he)
         ∙ mul-ratio _ s (d * e) f (mul-pos hd he) hf
-        ∙ ratio_same _ _ (d * e * f) (d * (e * f)) (mul-pos (mul-pos hd he) hf) (mul-pos hd (mul-pos he hf))
+        ∙ over_three _ _ d e f hd he hf
         (ring (p ∷ r ∷ s ∷ pos d ∷ pos e ∷ pos f ∷ []) ((v0 ⊗ v1 ⊗ v2) ⊗ (v3 ⊗ (v4 ⊗ v5))) ((v0 ⊗ (v1 ⊗ v2)) ⊗ (v3 ⊗ v4 ⊗ v5)) refl)
         ∙ sym (mul-ratio p _ d (e * f) hd (mul-pos he hf))
         ∙ ap (λ w. ratio p d *ℚ w) (sym (mul-ratio r s e f he hf))
@@ -259,6 +267,11 @@ rational_ring = record {
 pub ring_ℚ : (xs : List Rational) (e f : Expr) → normal e ≡ normal f
     → expr_value rational_ring (at rational_ring xs) e ≡ expr_value rational_ring (at rational_ring xs) f
 ring_ℚ xs e f same_form = ring_in rational_ring xs e f same_form
+
+-- x - y = 0
+pub same_by_difference : (x y : Rational) → x +ℚ whole (negsuc 0) *ℚ y ≡ whole (pos 0) → x ≡ y
+same_by_difference x y e =
+    ring_ℚ (x ∷ y ∷ []) v0 ((v0 ⊕ num (negsuc 0) ⊗ v1) ⊕ v1) refl ∙ ap (λ w. w +ℚ y) e ∙ ring_ℚ (y ∷ []) (num (pos 0) ⊕ v0) v0 refl
 
 -- 1/x times x
 pub mul-inverse : (x : Rational) → x ≢ whole (pos 0) → x *ℚ inverse x.num x.den ≡ whole (pos 1)

@@ -150,6 +150,11 @@ form_over_bound m g b a s closed nonneg =
     scaled : (b h x : ℤ) → b ≤ℤ h → (b *ℤ (x *ℤ x)) ≤ℤ (h *ℤ (x *ℤ x))
     scaled b h x l = rw (*ℤ_comm b (x *ℤ x), *ℤ_comm h (x *ℤ x)) (mul_le_left (x *ℤ x) b h (nonneg_square x) l)
 
+form_over_squares : (n m : ℕ) (q : ℕ → ℕ → ℤ) (v : ℕ → ℕ → ℤ) (b : ℤ) (a : ℕ → ℤ)
+    → IsSymmetric n q → IsClosed m (λ k l. bilinear n q (v k) (v l)) b → AreNonnegative m a
+    → (b *ℤ sum_to m (λ i. a i *ℤ a i)) ≤ℤ form m (λ k l. bilinear n q (v k) (v l)) a
+form_over_squares n m q v b a s closed nonneg = form_over_bound m _ b a (λ i j li lj. bilinear_symmetric n q (v i) (v j) s) closed nonneg
+
 -- closed at b ≥ 0: each value at a combination that is not empty is at least b
 pub closed_bound : (n m : ℕ) (q : ℕ → ℕ → ℤ) (v : ℕ → ℕ → ℤ) (b : ℤ) (a : ℕ → ℤ)
     → IsSymmetric n q → pos 0 ≤ℤ b → IsClosed m (λ k l. bilinear n q (v k) (v l)) b → AreNonnegative m a → SomeNonzero m a
@@ -158,8 +163,7 @@ closed_bound n m q v b a s nonneg_b closed nonneg (k, below, nonzero) =
     let squares : pos 1 ≤ℤ sum_to m (λ i. a i *ℤ a i) =
     at_most_trans_ℤ (one_le_square (a k) nonzero) (term_le_sum m (λ i. a i *ℤ a i) k below (λ i l. nonneg_square (a i))) in
     let grown : (b *ℤ pos 1) ≤ℤ (b *ℤ sum_to m (λ i. a i *ℤ a i)) = mul_le_left b (pos 1) _ nonneg_b squares in
-    let over : (b *ℤ sum_to m (λ i. a i *ℤ a i)) ≤ℤ form m (λ k l. bilinear n q (v k) (v l)) a =
-    form_over_bound m _ b a (λ i j li lj. bilinear_symmetric n q (v i) (v j) s) closed nonneg in
+    let over = form_over_squares n m q v b a s closed nonneg in
     let one : b *ℤ pos 1 ≡ b = simp expand in
     rw (form-combination n m q a v) (omega (arith, linear))
 
@@ -230,8 +234,7 @@ pub closed_equality : (n m : ℕ) (q : ℕ → ℕ → ℤ) (v : ℕ → ℕ →
     → IsSymmetric n q → pos 1 ≤ℤ b → IsClosed m (λ k l. bilinear n q (v k) (v l)) b → AreNonnegative m a → SomeNonzero m a
     → form n q (combination m a v) ≡ b → (k : ℕ) × IsUnit m a k
 closed_equality n m q v b a s positive closed nonneg (k, below, nonzero) attained =
-    let over : (b *ℤ sum_to m (λ i. a i *ℤ a i)) ≤ℤ form m (λ k l. bilinear n q (v k) (v l)) a =
-    form_over_bound m _ b a (λ i j li lj. bilinear_symmetric n q (v i) (v j) s) closed nonneg in
+    let over = form_over_squares n m q v b a s closed nonneg in
     let value : form m (λ k l. bilinear n q (v k) (v l)) a ≡ b = sym (form-combination n m q a v) ∙ attained in
     let one : b *ℤ pos 1 ≡ b = simp expand in
     let small : sum_to m (λ i. a i *ℤ a i) ≤ℤ pos 1 = le_of_mul_le_left b _ (pos 1) positive (omega (arith, linear)) in

@@ -4,7 +4,7 @@ use Rattle.std.proofs.Common.{arith, sym, ◌∙◌, ap₂, refl, inl, inr, subs
 use Rattle.std.proofs.lemmas.Int.{ints}
 use Rattle.std.proofs.lemmas.List.{get_or_default}
 use Rattle.std.specs.List.{All, Contains}
-use Rattle.commutative_ring.proofs.SmallCases.{three_ways}
+use Rattle.commutative_ring.proofs.SmallCases.{same_unless_apart, three_ways}
 use Rattle.exact_forms.specs.Vectors.{coordinate, ComesBefore, IsIncreasing}
 
 -- the numbers at its places decide a vector
@@ -134,15 +134,11 @@ increasing_places (x ∷ xs) d h (suc i) (suc j) l m = increasing_places xs d (t
 -- and each is listed once
 pub increasing_once : (xs : List (List ℕ)) (d : List ℕ) → IsIncreasing xs → (i j : ℕ) → i < length xs → j < length xs
     → slice_index_or xs i d ≡ slice_index_or xs j d → i ≡ j
-increasing_once xs d h i j li lj e = by (three_ways i j)
-  where
-    by : ((i < j) ⊎ ((i ≡ j) ⊎ (j < i))) → i ≡ j
-    by (inl l) = absurd
-        (before_irreflexive (slice_index_or xs j d) (subst (λ (w : List ℕ). ComesBefore w (slice_index_or xs j d)) e (increasing_places xs d h i j l lj)))
-    by (inr (inl s)) = s
-    by (inr (inr l)) =
-        absurd (before_irreflexive (slice_index_or xs i d)
-        (subst (λ (w : List ℕ). ComesBefore w (slice_index_or xs i d)) (sym e) (increasing_places xs d h j i l li)))
+increasing_once xs d h i j li lj e =
+    same_unless_apart i j
+    (λ l. before_irreflexive (slice_index_or xs j d) (subst (λ (w : List ℕ). ComesBefore w (slice_index_or xs j d)) e (increasing_places xs d h i j l lj)))
+    (λ l. before_irreflexive (slice_index_or xs i d)
+    (subst (λ (w : List ℕ). ComesBefore w (slice_index_or xs i d)) (sym e) (increasing_places xs d h j i l li)))
 
 -- ---- each of a list, by places
 pub all_from_places : (P : List ℕ → Type 0) (xs : List (List ℕ)) → ((k : ℕ) → k < length xs → P (slice_index_or xs k [])) → All P xs

@@ -19,8 +19,13 @@ same_place i j a b w e lj lb = by (three_ways i a)
     by (inr (inl s)) = let p : i * w ≡ a * w = ap (λ (n : ℕ). n * w) s in (s, omega arith)
     by (inr (inr l)) = let p = below_row a i w l in absurd (omega arith)
 
-pub rest_at : (r c w : ℕ) (new old xs : List Rational) (i j n a b : ℕ) → n < length xs → j < w → b < w → i * w + j + n ≡ a * w + b
+-- the cells after xs are the new ones, each at its row and column
+abbrev AreCells : ℕ → ℕ → ℕ → List Rational → List Rational → List Rational → Type 0
+AreCells r c w new old xs =
+    (i j n a b : ℕ) → n < length xs → j < w → b < w → i * w + j + n ≡ a * w + b
     → entry_of (rest_cells r c w new old xs i j) n ≡ new_cell r a (entry_of xs n) (entry_of old (a * w + c)) (entry_of new b)
+
+pub rest_at : (r c w : ℕ) (new old xs : List Rational) → AreCells r c w new old xs
 unfolding rest_cells
 rest_at r c w new old [] i j n a b l lj lb e = absurd (omega arith)
 rest_at r c w new old (x ∷ xs) i j zero a b l lj lb e =
@@ -31,9 +36,7 @@ rest_at r c w new old (x ∷ xs) i j (suc n) a b l lj lb e = by (inside_or_not j
     inside_or_not : (j w : ℕ) → (j + 1 < w) ⊎ (w ≤ j + 1)
     inside_or_not j w = grind arith
 
-    by : ((j + 1 < w) ⊎ (w ≤ j + 1))
-        → ((i j n a b : ℕ) → n < length xs → j < w → b < w → i * w + j + n ≡ a * w + b
-        → entry_of (rest_cells r c w new old xs i j) n ≡ new_cell r a (entry_of xs n) (entry_of old (a * w + c)) (entry_of new b))
+    by : ((j + 1 < w) ⊎ (w ≤ j + 1)) → AreCells r c w new old xs
         → entry_of (rest_cells r c w new old xs (next_row w i j) (next_column w i j)) n
         ≡ new_cell r a (entry_of xs n) (entry_of old (a * w + c)) (entry_of new b)
     by (inl m) rec = let s = next_inside w i j m in rw (s.0, s.1) (rec i (j + 1) n a b (omega arith) m lb (omega arith))

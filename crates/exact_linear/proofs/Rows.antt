@@ -13,9 +13,8 @@ use Rattle.exact_linear.specs.Exchange.{entry_is_owed, divide_entry, clear_entry
 use Rattle.exact_linear.specs.Exchange.{next_column, table_row, pivot_row, table_ops, table_cells}
 
 -- the row so far, and what is left of it
-pub joined : (into : List Rational) (j : ℕ) (z : Rational) (rest : List Rational) → j < length into
-    → take j into ++ z ∷ rest ≡ take (j + 1) (set into j z) ++ rest
-joined into j z rest l = sym (append_assoc (take j into) (z ∷ []) rest) ∙ ap (λ (t : List Rational). t ++ rest) (sym (take_more_set into j z l))
+pub joined : {A : Type 0} (into : List A) (j : ℕ) (z : A) (rest : List A) → j < length into → take j into ++ z ∷ rest ≡ take (j + 1) (set into j z) ++ rest
+joined into j z rest l = sym (append_assoc (take j into) (z ∷ []) rest) ∙ ap (λ t. t ++ rest) (sym (take_more_set into j z l))
 
 pub divide_refused : (i j : ℕ) (p x : Rational) (xs : List Rational) (err : EntryOp) → j < length xs → x ≡ get_or xs j x
     → answer entry_is_owed (divide_entry i j x p) ((x /ℚ p)) ≡ Err err
@@ -60,50 +59,57 @@ unfolding cell_ops new_cell
 cell_other r i j x f y n = let t : nat_eq i r ≡ false = grind arith in rw t
 
 -- ---- the table, from a cell on
-pub rest_refused : (r c w i j k : ℕ) (new old : List Rational) (x f y : Rational) (err : EntryOp) → k < length old → x ≡ get_or old k x
-    → f ≡ entry_of old (i * w + c) → y ≡ entry_of new j
+-- the entries that a cell is made of
+pub record IsRead (c w i j k : ℕ) (new old : List Rational) (x f y : Rational) : Type 0 where
+  pub within : k < length old
+  pub here : x ≡ get_or old k x
+  pub factor : f ≡ entry_of old (i * w + c)
+  pub pivot : y ≡ entry_of new j
+
+cell_read : (r c w i j k : ℕ) (new old : List Rational) (x f y : Rational) → IsRead c w i j k new old x f y
+    → answer entry_is_owed (cell_ops r i j x (entry_of old (i * w + c)) (entry_of new j)) (new_cell r i x (entry_of old (i * w + c)) (entry_of new j))
+    ≡ answer entry_is_owed (cell_ops r i j x f y) (new_cell r i x f y)
+cell_read r c w i j k new old x f y R =
+    ap₂ (λ (f : Rational) (y : Rational). answer entry_is_owed (cell_ops r i j x f y) (new_cell r i x f y)) (sym R.factor) (sym R.pivot)
+
+pub rest_refused : (r c w i j k : ℕ) (new old : List Rational) (x f y : Rational) (err : EntryOp) → IsRead c w i j k new old x f y
     → answer entry_is_owed (cell_ops r i j x f y) (new_cell r i x f y) ≡ Err err
     → answer entry_is_owed (rest_ops r c w new old (drop k old) i j) (tt {0}) ≡ Err err
 unfolding rest_ops
-rest_refused r c w i j k new old x f y err l e ef ey h =
-    rw (drop_at old k x l e)
-    (answer-append_err entry_is_owed (cell_ops r i j x (entry_of old (i * w + c)) (entry_of new j))
-    (rest_ops r c w new old (drop (k + 1) old) (next_row w i j) (next_column w i j))
-    (new_cell r i x (entry_of old (i * w + c)) (entry_of new j)) (tt {0}) err
-    (ap₂ (λ (f : Rational) (y : Rational). answer entry_is_owed (cell_ops r i j x f y) (new_cell r i x f y)) (sym ef) (sym ey) ∙ h))
+rest_refused r c w i j k new old x f y err R h =
+    rw (drop_at old k x R.within R.here)
+    (answer-append_err entry_is_owed (cell_ops r i j x (entry_of old (i * w + c)) (entry_of new j)) _ _ (tt {0}) err
+    (cell_read r c w i j k new old x f y R ∙ h))
 
-pub rest_done : (r c w i j k : ℕ) (new old : List Rational) (x f y z : Rational) → k < length old → x ≡ get_or old k x → f ≡ entry_of old (i * w + c)
-    → y ≡ entry_of new j
+pub rest_done : (r c w i j k : ℕ) (new old : List Rational) (x f y z : Rational) → IsRead c w i j k new old x f y
     → answer entry_is_owed (cell_ops r i j x f y) (new_cell r i x f y) ≡ Ok z
     → answer entry_is_owed (rest_ops r c w new old (drop k old) i j) (tt {0})
     ≡ answer entry_is_owed (rest_ops r c w new old (drop (k + 1) old) (next_row w i j) (next_column w i j)) (tt {0})
 unfolding rest_ops
-rest_done r c w i j k new old x f y z l e ef ey h =
-    rw (drop_at old k x l e)
+rest_done r c w i j k new old x f y z R h =
+    rw (drop_at old k x R.within R.here)
     (answer-append_ok entry_is_owed (cell_ops r i j x (entry_of old (i * w + c)) (entry_of new j))
-    (rest_ops r c w new old (drop (k + 1) old) (next_row w i j) (next_column w i j))
-    (new_cell r i x (entry_of old (i * w + c)) (entry_of new j)) z (tt {0})
-    (ap₂ (λ (f : Rational) (y : Rational). answer entry_is_owed (cell_ops r i j x f y) (new_cell r i x f y)) (sym ef) (sym ey) ∙ h)).0
+    (rest_ops r c w new old (drop (k + 1) old) (next_row w i j) (next_column w i j)) _ z (tt {0}) (cell_read r c w i j k new old x f y R ∙ h)).0
 
-pub rest_made : (r c w i j k : ℕ) (new old into : List Rational) (x f y z : Rational) → k < length old → length into ≡ length old → x ≡ get_or old k x
-    → f ≡ entry_of old (i * w + c) → y ≡ entry_of new j
-    → answer entry_is_owed (cell_ops r i j x f y) (new_cell r i x f y) ≡ Ok z
-    → take k into ++ rest_cells r c w new old (drop k old) i j ≡ take (k + 1) (set into k z)
-    ++ rest_cells r c w new old (drop (k + 1) old) (next_row w i j) (next_column w i j)
-unfolding rest_cells
-rest_made r c w i j k new old into x f y z l s e ef ey h =
-    let v : new_cell r i x f y ≡ z = (answer-append_ok entry_is_owed (cell_ops r i j x f y) [] (new_cell r i x f y) z (tt {0}) h).1 in
-    let u : new_cell r i x (entry_of old (i * w + c)) (entry_of new j) ≡ z = ap₂ (λ (f : Rational) (y : Rational). new_cell r i x f y) (sym ef) (sym ey) ∙ v in
-    rw (drop_at old k x l e, u) (joined into k z (rest_cells r c w new old (drop (k + 1) old) (next_row w i j) (next_column w i j)) (omega arith))
+-- what is written up to a place, and the cells from there on
+abbrev pub cells_from : ℕ → ℕ → ℕ → List Rational → List Rational → List Rational → ℕ → ℕ → ℕ → List Rational
+cells_from r c w new old into k i j = take k into ++ rest_cells r c w new old (drop k old) i j
 
 -- an entry is written
 pub rest_written : (r c w i j k : ℕ) (new old into : List Rational) (x z : Rational) → k < length old → length into ≡ length old → x ≡ get_or old k x
     → new_cell r i x (entry_of old (i * w + c)) (entry_of new j) ≡ z
-    → take k into ++ rest_cells r c w new old (drop k old) i j ≡ take (k + 1) (set into k z)
-    ++ rest_cells r c w new old (drop (k + 1) old) (next_row w i j) (next_column w i j)
+    → cells_from r c w new old into k i j ≡ cells_from r c w new old (set into k z) (k + 1) (next_row w i j) (next_column w i j)
 unfolding rest_cells
 rest_written r c w i j k new old into x z l s e u =
     rw (drop_at old k x l e, u) (joined into k z (rest_cells r c w new old (drop (k + 1) old) (next_row w i j) (next_column w i j)) (omega arith))
+
+pub rest_made : (r c w i j k : ℕ) (new old into : List Rational) (x f y z : Rational) → length into ≡ length old → IsRead c w i j k new old x f y
+    → answer entry_is_owed (cell_ops r i j x f y) (new_cell r i x f y) ≡ Ok z
+    → cells_from r c w new old into k i j ≡ cells_from r c w new old (set into k z) (k + 1) (next_row w i j) (next_column w i j)
+rest_made r c w i j k new old into x f y z s R h =
+    let v : new_cell r i x f y ≡ z = (answer-append_ok entry_is_owed (cell_ops r i j x f y) [] (new_cell r i x f y) z (tt {0}) h).1 in
+    rest_written r c w i j k new old into x z R.within s R.here
+    (ap₂ (λ (f : Rational) (y : Rational). new_cell r i x f y) (sym R.factor) (sym R.pivot) ∙ v)
 
 pub rest_nothing : (r c w i j k : ℕ) (new old : List Rational) → length old ≤ k
     → answer entry_is_owed (rest_ops r c w new old (drop k old) i j) (tt {0}) ≡ Ok (tt {0})
@@ -111,15 +117,21 @@ unfolding rest_ops answer
 rest_nothing r c w i j k new old l = let e : drop k old ≡ [] = drop_of_length-le old {i = k} l in rw e
 
 pub rest_whole : (r c w i j k : ℕ) (new old into : List Rational) → length old ≤ k → length into ≡ length old
-    → take k into ++ rest_cells r c w new old (drop k old) i j ≡ into
+    → cells_from r c w new old into k i j ≡ into
 unfolding rest_cells
 rest_whole r c w i j k new old into l s =
     let e : drop k old ≡ [] = drop_of_length-le old {i = k} l in
     rw e (append-nil (take k into) ∙ take_all k into (omega arith))
 
 -- ---- places
-pub cell_within : (i j w c rows k : ℕ) → k ≡ i * w + j → k < rows * w → c < w → i * w + c < rows * w
-cell_within i j w c rows k e l h = by (below_or_not i rows)
+-- place k is that of row i and column j, and as many entries are written over as there are
+pub record IsAtCell (k i j w written all : ℕ) : Type 0 where
+  pub place : k ≡ i * w + j
+  pub column : j < w
+  pub size : written ≡ all
+
+pub cell_within : (k i j w n m c rows : ℕ) → IsAtCell k i j w n m → k < rows * w → c < w → i * w + c < rows * w
+cell_within k i j w n m c rows A l h = let e = A.place in let d = A.column in by (below_or_not i rows)
   where
     below_or_not : (i rows : ℕ) → (i + 1 ≤ rows) ⊎ (rows ≤ i)
     below_or_not i rows = grind arith
@@ -136,6 +148,16 @@ next_after w i j h = grind arith
 
 pub last_column : (k i j w : ℕ) → k ≡ i * w + j → j < w → w ≤ j + 1 → k + 1 ≡ (i + 1) * w + 0
 last_column k i j w e l h = let f : w ≡ j + 1 = omega arith in omega arith
+
+pub cell_beside : (k i j w n m new : ℕ) → IsAtCell k i j w n m → new ≡ n → j + 1 < w → IsAtCell (k + 1) i (j + 1) w new m
+cell_beside k i j w n m new A e h = record { place = let p = A.place in omega arith; column = h; size = e ∙ A.size }
+
+pub cell_below : (k i j w n m new : ℕ) → IsAtCell k i j w n m → new ≡ n → w ≤ j + 1 → IsAtCell (k + 1) (i + 1) 0 w new m
+cell_below k i j w n m new A e h = record {
+  place = last_column k i j w A.place A.column h;
+  column = let l = A.column in omega arith;
+  size = e ∙ A.size;
+}
 
 -- ---- the whole exchange
 pub exchange_refused : (w r c : ℕ) (old row : List Rational) (x : Rational) (err : EntryOp) → x ≡ entry_of old (r * w + c) → row ≡ table_row w old r

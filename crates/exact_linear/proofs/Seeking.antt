@@ -37,14 +37,19 @@ gather_start test i m xs e =
 one_more : (i n : ℕ) → i < n → n - i ≡ suc (n - (i + 1))
 one_more i n l = omega arith
 
+one_place : (xs : List ℕ) (test : ℕ → Bool) (i n : ℕ) (b : Bool) → i < n → test i ≡ b
+    → xs ++ places_where test i (n - i) ≡ xs ++ (if b then i ∷ places_where test (i + 1) (n - (i + 1)) else places_where test (i + 1) (n - (i + 1)))
+unfolding places_where
+one_place xs test i n b l t = ap (λ (k : ℕ). xs ++ places_where test i k) (one_more i n l)
+    ∙ ap (λ (b : Bool). xs ++ (if b then i ∷ places_where test (i + 1) (n - (i + 1)) else places_where test (i + 1) (n - (i + 1)))) t
+
 pub gather_take : (whole xs ys : List ℕ) (test : ℕ → Bool) (i n : ℕ) → IsGathered whole xs test i n → i < n → test i ≡ true → ys ≡ xs ++ i ∷ []
     → IsGathered whole ys test (i + 1) n
 unfolding places_where
 gather_take whole xs ys test i n G l t e = record {
   same =
       ap (λ (ys : List ℕ). ys ++ places_where test (i + 1) (n - (i + 1))) e ∙ append_assoc xs (i ∷ []) (places_where test (i + 1) (n - (i + 1)))
-      ∙ sym (ap (λ (k : ℕ). xs ++ places_where test i k) (one_more i n l)
-      ∙ ap (λ (b : Bool). xs ++ (if b then i ∷ places_where test (i + 1) (n - (i + 1)) else places_where test (i + 1) (n - (i + 1)))) t)
+      ∙ sym (one_place xs test i n true l t)
       ∙ G.same;
 }
 
@@ -52,8 +57,7 @@ pub gather_skip : (whole xs : List ℕ) (test : ℕ → Bool) (i n : ℕ) → Is
 unfolding places_where
 gather_skip whole xs test i n G l t = record {
   same =
-      sym (ap (λ (k : ℕ). xs ++ places_where test i k) (one_more i n l)
-      ∙ ap (λ (b : Bool). xs ++ (if b then i ∷ places_where test (i + 1) (n - (i + 1)) else places_where test (i + 1) (n - (i + 1)))) t)
+      sym (one_place xs test i n false l t)
       ∙ G.same;
 }
 

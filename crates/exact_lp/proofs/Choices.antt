@@ -1,6 +1,6 @@
 -- The choices on a table, as loops make them.
 use Rattle.std.specs.Prelude.{◌≡◌, ◌≢◌, ℕ, suc, ◌+◌, ◌-◌, ◌<◌, ◌≤◌, ℤ, pos, negsuc, Bool, true, false, not, ◌&&◌, List, [], ◌∷◌, ◌++◌, length, drop, get_or}
-use Rattle.std.specs.Prelude.{Option, Some, None, IfSome, Ok, Err, if◌then◌else◌, nat_eq, nat_lt}
+use Rattle.std.specs.Prelude.{Option, Some, None, IfSome, Result, Ok, Err, if◌then◌else◌, nat_eq, nat_lt}
 use Rattle.std.proofs.Common.{arith, sym, ◌∙◌, ap, ap₂, subst, drop_of_length-le, append-nil}
 use Rattle.std.specs.declared.cmp.Ordering.{Ordering}
 use Rattle.std.specs.declared.cmp.Ordering.TheVariants.{Less, Equal, Greater}
@@ -50,22 +50,18 @@ pub record IsLeastSoFar (t : Table) (m best i : ℕ) : Type 0 where
   pub same : least_row t m 0 1 (rows_of t - 1) ≡ least_row t m best i (rows_of t - i)
   pub within : best < rows_of t
 
-least_next : (t : Table) (m best i : ℕ) → i < rows_of t
-    → least_row t m best i (rows_of t - i) ≡ least_row t m (if is_lower t m best i then i else best) (i + 1) (rows_of t - (i + 1))
+least_next : (t : Table) (m best i : ℕ) (b : Bool) → i < rows_of t → is_lower t m best i ≡ b
+    → least_row t m best i (rows_of t - i) ≡ least_row t m (if b then i else best) (i + 1) (rows_of t - (i + 1))
 unfolding least_row
-least_next t m best i l = ap (λ (k : ℕ). least_row t m best i k) (let e : rows_of t - i ≡ suc (rows_of t - (i + 1)) = omega arith in e)
+least_next t m best i b l h =
+    ap (λ (k : ℕ). least_row t m best i k) (let e : rows_of t - i ≡ suc (rows_of t - (i + 1)) = omega arith in e)
+    ∙ ap (λ (b : Bool). least_row t m (if b then i else best) (i + 1) (rows_of t - (i + 1))) h
 
 pub least_lower : (t : Table) (m best i : ℕ) → IsLeastSoFar t m best i → i < rows_of t → is_lower t m best i ≡ true → IsLeastSoFar t m i (i + 1)
-least_lower t m best i S l h = record {
-  same = S.same ∙ least_next t m best i l ∙ ap (λ (b : Bool). least_row t m (if b then i else best) (i + 1) (rows_of t - (i + 1))) h;
-  within = l;
-}
+least_lower t m best i S l h = record { same = S.same ∙ least_next t m best i true l h; within = l }
 
 pub least_kept : (t : Table) (m best i : ℕ) → IsLeastSoFar t m best i → i < rows_of t → is_lower t m best i ≡ false → IsLeastSoFar t m best (i + 1)
-least_kept t m best i S l h = record {
-  same = S.same ∙ least_next t m best i l ∙ ap (λ (b : Bool). least_row t m (if b then i else best) (i + 1) (rows_of t - (i + 1))) h;
-  within = S.within;
-}
+least_kept t m best i S l h = record { same = S.same ∙ least_next t m best i false l h; within = S.within }
 
 pub least_done : (t : Table) (m best i : ℕ) → IsLeastSoFar t m best i → rows_of t ≤ i → best ≡ least_row t m 0 1 (rows_of t - 1)
 unfolding least_row
@@ -80,13 +76,17 @@ lower_is t m b i o e = ap (λ (o : Ordering). elim o as (λ _. Bool) [ Less ↦ 
 pub record IsComparing (t : Table) (e b i : ℕ) (cs : List ℕ) (k : ℕ) : Type 0 where
   pub same : answer entry_is_owed (versus_ops t e b i cs) (beats t e b i cs) ≡ answer entry_is_owed (versus_ops t e b i (drop k cs)) (beats t e b i (drop k cs))
 
+-- a row's ratio, or the operation that doesn't fit
+abbrev quotient : Table → ℕ → ℕ → ℕ → Result Rational EntryOp
+quotient t e i c = answer entry_is_owed (divide_entry i c (table_entry t i c) (table_entry t i e)) (ratio_at t e i c)
+
 at_column : (t : Table) (e b i : ℕ) (cs : List ℕ) (k c : ℕ) → IsComparing t e b i cs k → k < length cs → c ≡ get_or cs k 0
     → answer entry_is_owed (versus_ops t e b i cs) (beats t e b i cs)
     ≡ answer entry_is_owed (versus_ops t e b i (c ∷ drop (k + 1) cs)) (beats t e b i (c ∷ drop (k + 1) cs))
 at_column t e b i cs k c C l h = C.same ∙ ap (λ (cs : List ℕ). answer entry_is_owed (versus_ops t e b i cs) (beats t e b i cs)) (drop_at cs k c l h)
 
 pub compare_refused_best : (t : Table) (e b i : ℕ) (cs : List ℕ) (k c : ℕ) (err : EntryOp) → IsComparing t e b i cs k → k < length cs → c ≡ get_or cs k 0
-    → answer entry_is_owed (divide_entry b c (table_entry t b c) (table_entry t b e)) (ratio_at t e b c) ≡ Err err
+    → quotient t e b c ≡ Err err
     → answer entry_is_owed (versus_ops t e b i cs) (beats t e b i cs) ≡ Err err
 unfolding versus_ops
 compare_refused_best t e b i cs k c err C l h f =
@@ -99,7 +99,7 @@ abbrev pub ops_left : Table → ℕ → ℕ → ℕ → List ℕ → Ordering �
 ops_left t e b i cs o = elim o as (λ _. List EntryOp) [ Less ↦ [] | Equal ↦ versus_ops t e b i cs | Greater ↦ [] ]
 
 after_best : (t : Table) (e b i : ℕ) (cs : List ℕ) (k c : ℕ) (x : Rational) → IsComparing t e b i cs k → k < length cs → c ≡ get_or cs k 0
-    → answer entry_is_owed (divide_entry b c (table_entry t b c) (table_entry t b e)) (ratio_at t e b c) ≡ Ok x
+    → quotient t e b c ≡ Ok x
     → answer entry_is_owed (versus_ops t e b i cs) (beats t e b i cs)
     ≡ answer entry_is_owed (divide_entry i c (table_entry t i c) (table_entry t i e)
     ++ ops_left t e b i (drop (k + 1) cs) (order_of (ratio_at t e i c) (ratio_at t e b c))) (beats t e b i (c ∷ drop (k + 1) cs))
@@ -111,8 +111,8 @@ after_best t e b i cs k c x C l h f =
 
 pub compare_refused_own : (t : Table) (e b i : ℕ) (cs : List ℕ) (k c : ℕ) (x : Rational) (err : EntryOp) → IsComparing t e b i cs k → k < length cs
     → c ≡ get_or cs k 0
-    → answer entry_is_owed (divide_entry b c (table_entry t b c) (table_entry t b e)) (ratio_at t e b c) ≡ Ok x
-    → answer entry_is_owed (divide_entry i c (table_entry t i c) (table_entry t i e)) (ratio_at t e i c) ≡ Err err
+    → quotient t e b c ≡ Ok x
+    → quotient t e i c ≡ Err err
     → answer entry_is_owed (versus_ops t e b i cs) (beats t e b i cs) ≡ Err err
 compare_refused_own t e b i cs k c x err C l h f g =
     after_best t e b i cs k c x C l h f
@@ -122,8 +122,8 @@ compare_refused_own t e b i cs k c x err C l h f g =
 -- the order of the two quotients decides, or the columns that are left
 pub compare_both : (t : Table) (e b i : ℕ) (cs : List ℕ) (k c : ℕ) (x y : Rational) (o : Ordering) → IsComparing t e b i cs k → k < length cs
     → c ≡ get_or cs k 0
-    → answer entry_is_owed (divide_entry b c (table_entry t b c) (table_entry t b e)) (ratio_at t e b c) ≡ Ok x
-    → answer entry_is_owed (divide_entry i c (table_entry t i c) (table_entry t i e)) (ratio_at t e i c) ≡ Ok y
+    → quotient t e b c ≡ Ok x
+    → quotient t e i c ≡ Ok y
     → o ≡ order_of y x
     → answer entry_is_owed (versus_ops t e b i cs) (beats t e b i cs)
     ≡ answer entry_is_owed (ops_left t e b i (drop (k + 1) cs) o)
@@ -150,23 +150,27 @@ pub record IsCandidateRow (t : Table) (m e b : ℕ) : Type 0 where
   pub row : b < rows_of t
   pub candidate : is_candidate t m e b ≡ true
 
+-- the answer of the rows from row i on
+abbrev rows_from : Table → ℕ → ℕ → List ℕ → Option ℕ → ℕ → ℕ → Result (Option ℕ) EntryOp
+rows_from t m e cs best i n = answer entry_is_owed (leaving_ops t m e cs best i n) (leaving_row t m e cs best i n)
+
+-- the same, where row i is a candidate or isn't
+abbrev rows_by : Table → ℕ → ℕ → List ℕ → Option ℕ → ℕ → Bool → Result (Option ℕ) EntryOp
+rows_by t m e cs best i b =
+    answer entry_is_owed ((if b then better_ops t e cs best i else [])
+    ++ leaving_ops t m e cs (if b then better t e cs best i else best) (i + 1) (rows_of t - (i + 1)))
+    (leaving_row t m e cs (if b then better t e cs best i else best) (i + 1) (rows_of t - (i + 1)))
+
 pub record IsBestSoFar (t : Table) (m e : ℕ) (cs : List ℕ) (best : Option ℕ) (i : ℕ) : Type 0 where
-  pub same : answer entry_is_owed (leaving_ops t m e cs None 0 (rows_of t)) (leaving_row t m e cs None 0 (rows_of t))
-      ≡ answer entry_is_owed (leaving_ops t m e cs best i (rows_of t - i)) (leaving_row t m e cs best i (rows_of t - i))
+  pub same : rows_from t m e cs None 0 (rows_of t) ≡ rows_from t m e cs best i (rows_of t - i)
   pub found : IfSome best (IsCandidateRow t m e)
 
 at_row : (t : Table) (m e : ℕ) (cs : List ℕ) (best : Option ℕ) (i : ℕ) (b : Bool) → i < rows_of t → is_candidate t m e i ≡ b
-    → answer entry_is_owed (leaving_ops t m e cs best i (rows_of t - i)) (leaving_row t m e cs best i (rows_of t - i))
-    ≡ answer entry_is_owed ((if b then better_ops t e cs best i else [])
-    ++ leaving_ops t m e cs (if b then better t e cs best i else best) (i + 1) (rows_of t - (i + 1)))
-    (leaving_row t m e cs (if b then better t e cs best i else best) (i + 1) (rows_of t - (i + 1)))
+    → rows_from t m e cs best i (rows_of t - i) ≡ rows_by t m e cs best i b
 unfolding leaving_ops leaving_row
 at_row t m e cs best i b l h =
-    ap (λ (k : ℕ). answer entry_is_owed (leaving_ops t m e cs best i k) (leaving_row t m e cs best i k))
-    (let e : rows_of t - i ≡ suc (rows_of t - (i + 1)) = omega arith in e)
-    ∙ ap (λ (b : Bool). answer entry_is_owed ((if b then better_ops t e cs best i else [])
-    ++ leaving_ops t m e cs (if b then better t e cs best i else best) (i + 1) (rows_of t - (i + 1)))
-    (leaving_row t m e cs (if b then better t e cs best i else best) (i + 1) (rows_of t - (i + 1)))) h
+    ap (λ (k : ℕ). rows_from t m e cs best i k) (let e : rows_of t - i ≡ suc (rows_of t - (i + 1)) = omega arith in e)
+    ∙ ap (λ (b : Bool). rows_by t m e cs best i b) h
 
 pub best_passed : (t : Table) (m e : ℕ) (cs : List ℕ) (best : Option ℕ) (i : ℕ) → IsBestSoFar t m e cs best i → i < rows_of t → is_candidate t m e i ≡ false
     → IsBestSoFar t m e cs best (i + 1)

@@ -3,11 +3,10 @@ use Rattle.std.specs.Prelude.{◌≡◌, ◌≢◌, ℕ, ◌+◌, ◌-◌, ◌*�
 use Rattle.std.specs.Prelude.{if◌then◌else◌}
 use Rattle.std.proofs.Common.{arith, sym, ◌∙◌, ap, refl, subst, inl, inr}
 use Rattle.std.proofs.lemmas.Int.{ints}
-use Rattle.commutative_ring.proofs.SmallCases.{below_or_not, test_of_same, three_ways, true_or_false}
+use Rattle.commutative_ring.proofs.SmallCases.{below_or_not, names_apart, test_of_same, true_or_false}
 use Rattle.exact_forms.specs.Rational.{Rational, whole}
 use Rattle.exact_forms.specs.Sums.{sum_ℚ}
 use Rattle.exact_forms.specs.Signs.{IsNonnegative}
-use Rattle.exact_forms.specs.Copositive.{IsPerfect}
 use Rattle.exact_forms.proofs.RationalSums.{sum_ℚ_same}
 use Rattle.exact_forms.proofs.Signs.{whole_nonneg, total_nonneg}
 use Rattle.symmetric_matrix.specs.Symmetric.{Symmetric}
@@ -19,6 +18,7 @@ use Rattle.exact_linear.proofs.Summed.{summed_coord, summed_basis}
 use Rattle.exact_lp.specs.Rule.{first_columns}
 use Rattle.exact_lp.specs.Placement.{first_table, firsts, problem_of}
 use Rattle.exact_lp.specs.Program.{Program, IsProgram, IsNonnegativeProgram}
+use Rattle.exact_lp.specs.OfVectors.{IsPlaceable}
 use Rattle.exact_lp.proofs.Placing.{last_free}
 use Rattle.exact_lp.proofs.Right.{all_columns, other_column, start_columns, low_of, count_is, vector_entry_is}
 use Rattle.exact_lp.proofs.FirstBasis.{no_unit_left}
@@ -53,15 +53,17 @@ program_with vectors s d chosen = record {
 }
 
 -- ---- the program
-module _ (vectors : List (List ℕ)) (s : Symmetric) (d : ℤ) (some : 1 ≤ s.size) (sizes : (k : ℕ) → k < length vectors
-    → length (slice_index_or vectors k []) ≡ s.size) (perfect : IsPerfect s.size vectors)
-    (F : IsFirstTable (start_columns vectors s) (low_of s) (low_of s + length vectors) (first_table (problem_of vectors s d))) where
+-- its table over the first basis
+abbrev pub IsFirst : List (List ℕ) → Symmetric → ℤ → Type 0
+IsFirst vectors s d = IsFirstTable (start_columns vectors s) (low_of s) (low_of s + length vectors) (first_table (problem_of vectors s d))
+
+module _ (vectors : List (List ℕ)) (s : Symmetric) (d : ℤ) (g : IsPlaceable vectors s) (F : IsFirst vectors s d) where
   abbrev pub the_first : Table
   the_first = first_table (problem_of vectors s d)
 
   pub first_free : IsLastFree the_first
   first_free =
-      let S : IsStart (problem_of vectors s d).start (length vectors) = start_is vectors s (problem_of vectors s d).start some refl in
+      let S : IsStart (problem_of vectors s d).start (length vectors) = start_is vectors s (problem_of vectors s d).start g.some refl in
       last_free (problem_of vectors s d).start the_first (length vectors) refl S.units S.width
 
   -- the coordinates over the first basis
@@ -82,7 +84,7 @@ module _ (vectors : List (List ℕ)) (s : Symmetric) (d : ℤ) (some : 1 ≤ s.s
     where
       by : ((k < low_of s) ⊎ (low_of s ≤ k)) → low_of s ≤ k
       by (inr h) = h
-      by (inl h) = absurd (let f = no_unit_left vectors s the_first sizes perfect F k h in cc)
+      by (inl h) = absurd (let f = no_unit_left vectors s the_first g.sizes g.perfect F k h in cc)
 
       by_end : ((k < low_of s + length vectors) ⊎ (low_of s + length vectors ≤ k)) → k < low_of s + length vectors
       by_end (inl h) = h
@@ -105,12 +107,7 @@ module _ (vectors : List (List ℕ)) (s : Symmetric) (d : ℤ) (some : 1 ≤ s.s
   is_vector j l = let p = in_list j l in let r = F.rows in ((let a = p.from in omega arith), (let a = p.below in omega arith))
 
   apart : (i j : ℕ) → i < the_program.rank → j < the_program.rank → i ≢ j → the_program.first i ≢ the_program.first j
-  apart i j li lj ne e = by (three_ways i j)
-    where
-      by : ((i < j) ⊎ ((i ≡ j) ⊎ (j < i))) → ⊥
-      by (inl l) = let a = first_increase the_first (length vectors) i j l lj in omega arith
-      by (inr (inl h)) = ne h
-      by (inr (inr l)) = let a = first_increase the_first (length vectors) j i l li in omega arith
+  apart = names_apart the_program.first the_program.rank (λ i j l lj e. let a = first_increase the_first (length vectors) i j l lj in omega arith)
 
   abbrev chosen_entry : ℕ → ℕ → ℕ → Rational
   chosen_entry a b k = cond (F.basis k) ((start_columns vectors s).entry k a b) (whole (pos 0))
@@ -165,7 +162,7 @@ module _ (vectors : List (List ℕ)) (s : Symmetric) (d : ℤ) (some : 1 ≤ s.s
       let e : low_of s + (k - low_of s) ≡ k = omega arith in
       let l : k - low_of s < length vectors = omega arith in
       subst (λ (k : ℕ). IsNonnegative (the_program.columns.entry k a b)) e
-      (subst IsNonnegative (sym (vector_entry_is vectors s d (k - low_of s) a b l (sizes (k - low_of s) l) la lb))
+      (subst IsNonnegative (sym (vector_entry_is vectors s d (k - low_of s) a b l (g.sizes (k - low_of s) l) la lb))
       (whole_nonneg _ (nonneg (slice_index_or (slice_index_or vectors (k - low_of s) []) a 0) (slice_index_or (slice_index_or vectors (k - low_of s) []) b 0))))
     where
       nonneg : (x y : ℕ) → pos 0 ≤ℤ (pos x *ℤ pos y)

@@ -9,7 +9,6 @@ use Rattle.exact_forms.specs.Rational.{Rational, whole, inverse, ◌+ℚ◌, ◌
 use Rattle.exact_forms.specs.Sums.{sum_ℚ}
 use Rattle.exact_forms.specs.Signs.{IsPositive, IsNonnegative}
 use Rattle.exact_forms.specs.Vectors.{coordinate}
-use Rattle.exact_forms.specs.Copositive.{IsPerfect}
 use Rattle.exact_forms.specs.Coordinates.{Columns, IsBasis, IsShown}
 use Rattle.exact_forms.proofs.Rational.{ring_ℚ, zero_mul_ℚ}
 use Rattle.exact_forms.proofs.RationalSums.{sum_ℚ_same, mul-sum_ℚ}
@@ -18,17 +17,18 @@ use Rattle.exact_forms.proofs.Signs.{positive_nonneg, positive_inverse, nonneg_p
 use Rattle.exact_forms.proofs.Slacks.{replaced_other}
 use Rattle.symmetric_matrix.specs.Symmetric.{Symmetric, entry}
 use Rattle.exact_linear.proofs.Listed.{contains_at, contained, basic_row, row_basic, sum_listed}
-use Rattle.exact_linear.proofs.FirstTables.{IsFirstTable, first_coordinates}
+use Rattle.exact_linear.proofs.FirstTables.{first_coordinates}
 use Rattle.exact_linear.specs.Tables.{Table, rows_of, table_entry, basic_at, first_place, is_there, holds, row_of, is_basic, contains}
 use Rattle.exact_linear.proofs.Places.{first_found, first_none}
 use Rattle.exact_linear.proofs.Summed.{coord_other}
 use Rattle.exact_lp.specs.Rule.{target, top, is_below, is_settled, is_inside}
 use Rattle.exact_lp.specs.Placement.{at_target, is_raised, coefficient, weights, first_table, problem_of}
 use Rattle.exact_lp.specs.Program.{Program, IsProgram, weight}
+use Rattle.exact_lp.specs.OfVectors.{IsPlaceable}
 use Rattle.exact_lp.specs.Weights.{AreWeights}
 use Rattle.exact_lp.proofs.Right.{not_negative_fact, start_columns, low_of, count_is, vector_entry_is, target_entry_is}
 use Rattle.exact_lp.proofs.Outcome.{IsFactored, inside_factors}
-use Rattle.exact_lp.proofs.FirstProgram.{the_first, the_program, first_free, first_coord, is_program, basic_vector}
+use Rattle.exact_lp.proofs.FirstProgram.{IsFirst, the_first, the_program, first_free, first_coord, is_program, basic_vector}
 use Rattle.exact_lp.proofs.Opening.{at_basic}
 use Rattle.exact_lp.proofs.Tableaux.{IsTableau}
 use Rattle.exact_lp.proofs.TableFacts.{inside_fact, top_within, target_within, vector_within}
@@ -191,11 +191,9 @@ sum_of_vectors count low m w e h off =
     by k l (inr n) = inr (ap (λ x. x *ℚ e k) (off k l n) ∙ zero_mul_ℚ (e k))
 
 -- ---- the answer
-module _ (vectors : List (List ℕ)) (s : Symmetric) (d : ℤ) (some : 1 ≤ s.size) (sizes : (k : ℕ) → k < length vectors
-    → length (slice_index_or vectors k []) ≡ s.size) (perfect : IsPerfect s.size vectors)
-    (F : IsFirstTable (start_columns vectors s) (low_of s) (low_of s + length vectors) (first_table (problem_of vectors s d))) where
+module _ (vectors : List (List ℕ)) (s : Symmetric) (d : ℤ) (g : IsPlaceable vectors s) (F : IsFirst vectors s d) where
   abbrev P : Program
-  P = the_program vectors s d some sizes perfect F
+  P = the_program vectors s d g F
 
   -- from coefficients of the columns
   from_columns : (w : ℕ → Rational) (t : Table) (cs : List ℕ) → ((v : ℕ) → v < length vectors → coefficient t (length vectors) cs v ≡ w (low_of s + v))
@@ -203,7 +201,7 @@ module _ (vectors : List (List ℕ)) (s : Symmetric) (d : ℤ) (some : 1 ≤ s.s
   from_columns w t cs same W = record {
     nonnegative = λ v l. subst IsNonnegative (sym (same v l)) (W.nonnegative (low_of s + v) (let c = count_is vectors s in omega arith));
     sum = λ a b la lb.
-        sum_ℚ_same (length vectors) _ _ (λ v l. ap₂ (λ x y. x *ℚ y) (same v l) (sym (vector_entry_is vectors s d v a b l (sizes v l) la lb)))
+        sum_ℚ_same (length vectors) _ _ (λ v l. ap₂ (λ x y. x *ℚ y) (same v l) (sym (vector_entry_is vectors s d v a b l (g.sizes v l) la lb)))
         ∙ sum_of_vectors P.columns.count (low_of s) (length vectors) w (λ k. P.columns.entry k a b) (let c = count_is vectors s in omega arith) W.vectors
         ∙ W.sum a b la lb
         ∙ target_entry_is vectors s d a b;
@@ -216,20 +214,20 @@ module _ (vectors : List (List ℕ)) (s : Symmetric) (d : ℤ) (some : 1 ≤ s.s
   inside_right t cs B coord hd T h =
       weights_right vectors s d t cs hd
       (from_columns (weight P coord) t cs
-      (λ v l. coefficient_is P t (length vectors) cs B coord (first_coord vectors s d some sizes perfect F) T
-      (is_program vectors s d some sizes perfect F) v l)
-      (inside_factors P (first_coord vectors s d some sizes perfect F) (is_program vectors s d some sizes perfect F) B coord T.state
+      (λ v l. coefficient_is P t (length vectors) cs B coord (first_coord vectors s d g F) T
+      (is_program vectors s d g F) v l)
+      (inside_factors P (first_coord vectors s d g F) (is_program vectors s d g F) B coord T.state
       (inside_fact P t (length vectors) cs B coord T h)))
 
   -- ---- where the first basis settles it
   abbrev f : Table
-  f = the_first vectors s d some sizes perfect F
+  f = the_first vectors s d g F
 
   abbrev start : ℕ → ℕ → Rational
-  start = first_coord vectors s d some sizes perfect F
+  start = first_coord vectors s d g F
 
   R : IsProgram P start
-  R = is_program vectors s d some sizes perfect F
+  R = is_program vectors s d g F
 
   settled_factors : is_settled f (length vectors) ≡ true → IsFactored P (start P.target)
   settled_factors h = record {
@@ -240,15 +238,15 @@ module _ (vectors : List (List ℕ)) (s : Symmetric) (d : ℤ) (some : 1 ≤ s.s
     where
       beside : (k : ℕ) → k < P.columns.count → ((k < P.low) ⊎ (P.high ≤ k)) → ((F.basis k ≡ true) ⊎ (F.basis k ≡ false)) → start P.target k ≡ whole (pos 0)
       beside k l n (inr o) = (R.basis.written P.target R.target_within).outside k l o
-      beside k l (inl n) (inl b) = let v = (basic_vector vectors s d some sizes perfect F k l b).0 in absurd (omega arith)
-      beside k l (inr n) (inl b) = let v = (basic_vector vectors s d some sizes perfect F k l b).1 in absurd (omega arith)
+      beside k l (inl n) (inl b) = let v = (basic_vector vectors s d g F k l b).0 in absurd (omega arith)
+      beside k l (inr n) (inl b) = let v = (basic_vector vectors s d g F k l b).1 in absurd (omega arith)
 
       nonnegative : (k : ℕ) → k < P.columns.count → ((F.basis k ≡ true) ⊎ (F.basis k ≡ false)) → IsNonnegative (start P.target k)
       nonnegative k l (inr o) = nonneg_zero _ ((R.basis.written P.target R.target_within).outside k l o)
       nonnegative k l (inl b) =
           let i = F.shown.every k l b in
           subst (λ (k : ℕ). IsNonnegative (start P.target k)) i.2
-          (subst IsNonnegative (sym (at_basic vectors s d some sizes perfect F i.0 i.1)) (settled_nonneg f (length vectors) h i.0 i.1))
+          (subst IsNonnegative (sym (at_basic vectors s d g F i.0 i.1)) (settled_nonneg f (length vectors) h i.0 i.1))
 
   not_raised : (cs : List ℕ) (v : ℕ) → is_raised f (length vectors) cs v ≡ false
   not_raised cs v = ap (λ (x : Bool). x && contains cs (rows_of f + v)) (by (true_or_false (is_basic f (top f (length vectors)))))
@@ -257,7 +255,7 @@ module _ (vectors : List (List ℕ)) (s : Symmetric) (d : ℤ) (some : 1 ≤ s.s
       by (inr n) = n
       by (inl b) =
           let i = basic_row f (top f (length vectors)) b in
-          absurd ((first_free vectors s d some sizes perfect F).free i.0 i.1 (let e = i.2 in let w = F.width in let r = F.rows in let c = count_is vectors s in
+          absurd ((first_free vectors s d g F).free i.0 i.1 (let e = i.2 in let w = F.width in let r = F.rows in let c = count_is vectors s in
           omega arith))
 
   pub settled_coefficient : (cs : List ℕ) (v : ℕ) → v < length vectors → coefficient f (length vectors) cs v ≡ start P.target (low_of s + v)
@@ -268,7 +266,7 @@ module _ (vectors : List (List ℕ)) (s : Symmetric) (d : ℤ) (some : 1 ≤ s.s
       let c = count_is vectors s in omega arith) (let c = count_is vectors s in omega arith)
       ∙ ap (λ (r : ℕ). F.coord (r + length vectors) (low_of s + v)) F.rows
       ∙ sym (coord_other (start_columns vectors s) f (first_coordinates (start_columns vectors s) (low_of s) (low_of s + length vectors) f F)
-      (first_free vectors s d some sizes perfect F) P.target (low_of s + v) (let c = count_is vectors s in omega arith))
+      (first_free vectors s d g F) P.target (low_of s + v) (let c = count_is vectors s in omega arith))
 
   pub settled_right : (cs : List ℕ) → pos 1 ≤ℤ d → is_settled f (length vectors) ≡ true
       → AreWeights s.size vectors s d (λ k. slice_index_or (weights f (length vectors) cs (whole d) (length vectors)) k (whole (pos 0)))

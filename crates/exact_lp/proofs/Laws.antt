@@ -2,7 +2,7 @@
 use Rattle.std.specs.Prelude.{◌≡◌, ℕ, ◌+◌, ◌<◌, ◌⊎◌, ℤ, pos, true, not, List, [], ◌∷◌, length, Option, Some, None}
 use Rattle.std.proofs.Common.{arith, sym, ◌∙◌, ap, refl, subst, inl, inr}
 use Rattle.commutative_ring.proofs.Ring.{num, ◌⊕◌, neg, v0, v1}
-use Rattle.commutative_ring.proofs.SmallCases.{three_ways}
+use Rattle.commutative_ring.proofs.SmallCases.{same_unless_apart}
 use Rattle.exact_forms.specs.Rational.{Rational, ◌+ℚ◌, neg_ℚ}
 use Rattle.exact_forms.specs.Signs.{IsPositive, IsNonnegative}
 use Rattle.exact_forms.proofs.Rational.{ring_ℚ}
@@ -25,18 +25,14 @@ use Rattle.exact_lp.proofs.RunFront.{front_is_run}
 
 -- ---- two runs
 least_once : (P : Program) (coord : ℕ → ℕ → Rational) (i j : ℕ) → IsLeastPlace P coord i → IsLeastPlace P coord j → i ≡ j
-least_once P coord i j A B = by (three_ways i j)
+least_once P coord i j A B =
+    same_unless_apart i j (λ l. not_both _ _ (A.last j l B.within) (B.least i A.within)) (λ l. not_both _ _ (B.last i l A.within) (A.least j B.within))
   where
     not_both : (x y : Rational) → IsPositive (x +ℚ neg_ℚ y) → IsNonnegative (y +ℚ neg_ℚ x) → ⊥
     not_both x y p n =
         zero_not_positive
         (subst IsPositive (ring_ℚ (x ∷ y ∷ []) ((v0 ⊕ neg v1) ⊕ (v1 ⊕ neg v0)) (num (pos 0)) refl)
         (positive_add (x +ℚ neg_ℚ y) (y +ℚ neg_ℚ x) p n))
-
-    by : ((i < j) ⊎ ((i ≡ j) ⊎ (j < i))) → i ≡ j
-    by (inl l) = absurd (not_both _ _ (A.last j l B.within) (B.least i A.within))
-    by (inr (inl e)) = e
-    by (inr (inr l)) = absurd (not_both _ _ (B.last i l A.within) (A.least j B.within))
 
 pub one_run : OneRun
 one_run vectors s xs ys X Y k lx ly =
@@ -57,7 +53,7 @@ front_run vectors s steps X n l = record {
 -- ---- the tables
 pub tables_have_coordinates : TablesHaveCoordinates
 tables_have_coordinates vectors s d L k due =
-    let T = later_tableau vectors s d L.some L.sizes L.perfect k due in
+    let T = later_tableau vectors s d L k due in
     record { basis = _; coord = _; width = T.count; is_basis = T.state.basis; shown = T.shown }
 
 -- ---- where the first basis settles it
@@ -76,20 +72,20 @@ module _ (vectors : List (List ℕ)) (s : Symmetric) (d : ℤ) (L : IsPlaceable 
   f = first_table (problem_of vectors s d)
 
   R : IsProgram (program_of vectors s) (over_first vectors s)
-  R = is_linear_program vectors s d L.some L.sizes L.perfect
+  R = is_linear_program vectors s d L
 
   at_row : (i : ℕ) → i < rows_of f → over_first vectors s (program_of vectors s).target (basic_at f i) ≡ table_entry f i (target f (length vectors))
-  at_row i l = at_basic vectors s d L.some L.sizes L.perfect (the_basis vectors s d L.some L.sizes L.perfect) i l
+  at_row i l = at_basic vectors s d L (the_basis vectors s d L) i l
 
   settled_where : HasNonnegativeFirst vectors s → is_settled f (length vectors) ≡ true
   settled_where h = settled_from f (length vectors) (λ i l.
-      let F = the_basis vectors s d L.some L.sizes L.perfect in
+      let F = the_basis vectors s d L in
       let j = R.chosen_is_first (basic_at f i) (F.shown.within i l) (F.shown.in_basis i l) in
       subst IsNonnegative (ap (over_first vectors s (program_of vectors s).target) j.2 ∙ at_row i l) (h j.0 j.1))
 
   nonnegative_where : is_settled f (length vectors) ≡ true → HasNonnegativeFirst vectors s
   nonnegative_where h j l =
-      let F = the_basis vectors s d L.some L.sizes L.perfect in
+      let F = the_basis vectors s d L in
       let v = (R.first_is_vector j l).1 in
       let i = F.shown.every ((program_of vectors s).first j) (let c = count_is vectors s in omega arith) (R.first_is_chosen j l) in
       subst IsNonnegative (sym (at_row i.0 i.1) ∙ ap (over_first vectors s (program_of vectors s).target) i.2) (settled_nonneg f (length vectors) h i.0 i.1)

@@ -167,54 +167,56 @@ module _ (P : Program) (B : ℕ → Bool) (coord start : ℕ → ℕ → Rationa
           (λ a b la lb. zero_both (P.columns.entry e a b) (N.vectors e a b la lb E.low E.high) (below_zero h a b la lb) (sign_of (P.columns.entry e a b)))
           (H.basis.written e le)) P.top R.top_within)))
 
-  -- the best of the candidates below n
-  best_below : (e : ℕ) → (n : ℕ) → n ≤ P.columns.count
-      → ((l : ℕ) × (MayLeave P B coord e l)
-      × ((k : ℕ) → k < n → MayLeave P B coord e k → k ≢ l → IsLexBelow (suc P.rank) (ratios P coord e l) (ratios P coord e k)))
+  -- the ratios of one column are below those of another
+  abbrev IsColumnBelow : ℕ → ℕ → ℕ → Type 0
+  IsColumnBelow e k l = IsLexBelow (suc P.rank) (ratios P coord e k) (ratios P coord e l)
+
+  -- of the candidates below n there is a best, or there are none
+  abbrev HasBest : ℕ → ℕ → Type 0
+  HasBest e n =
+      ((l : ℕ) × (MayLeave P B coord e l)
+      × ((k : ℕ) → k < n → MayLeave P B coord e k → k ≢ l → IsColumnBelow e l k))
       ⊎ ((k : ℕ) → k < n → MayLeave P B coord e k → ⊥)
+
+  best_below : (e : ℕ) → (n : ℕ) → n ≤ P.columns.count
+      → HasBest e n
   best_below e zero h = inr (λ k l c. absurd (omega arith))
   best_below e (suc n) h = by (best_below e n (omega arith)) (candidate_or_not e n)
     where
       not_candidate : (k : ℕ) → MayLeave P B coord e k → (k < P.columns.count → B k ≡ true → k ≢ P.top → IsNonnegative (neg_ℚ (coord e k))) → ⊥
       not_candidate k c o = not_both (coord e k) c.positive (o c.within c.basic c.other)
 
-      by : (((l : ℕ) × (MayLeave P B coord e l)
-          × ((k : ℕ) → k < n → MayLeave P B coord e k → k ≢ l → IsLexBelow (suc P.rank) (ratios P coord e l) (ratios P coord e k)))
-          ⊎ ((k : ℕ) → k < n → MayLeave P B coord e k → ⊥))
+      by : (HasBest e n)
           → ((MayLeave P B coord e n) ⊎ (n < P.columns.count → B n ≡ true → n ≢ P.top → IsNonnegative (neg_ℚ (coord e n))))
-          → ((l : ℕ) × (MayLeave P B coord e l)
-          × ((k : ℕ) → k < suc n → MayLeave P B coord e k → k ≢ l → IsLexBelow (suc P.rank) (ratios P coord e l) (ratios P coord e k)))
-          ⊎ ((k : ℕ) → k < suc n → MayLeave P B coord e k → ⊥)
+          → HasBest e (suc n)
       by (inl b) (inr o) = inl (b.0, b.1, λ k lk c ne. old k c ne (last_or_before k n lk))
         where
-          old : (k : ℕ) → MayLeave P B coord e k → k ≢ b.0 → ((k ≡ n) ⊎ (k < n)) → IsLexBelow (suc P.rank) (ratios P coord e b.0) (ratios P coord e k)
+          old : (k : ℕ) → MayLeave P B coord e k → k ≢ b.0 → ((k ≡ n) ⊎ (k < n)) → IsColumnBelow e b.0 k
           old k c ne (inl s) = absurd (not_candidate n (subst (λ (k : ℕ). MayLeave P B coord e k) s c) o)
           old k c ne (inr l) = b.2 k l c ne
       by (inl b) (inl c) = choose (same_or_not b.0 n) (lex_cases (suc P.rank) (ratios P coord e b.0) (ratios P coord e n))
         where
-          kept : IsLexBelow (suc P.rank) (ratios P coord e b.0) (ratios P coord e n) → (k : ℕ) → MayLeave P B coord e k → k ≢ b.0 → ((k ≡ n) ⊎ (k < n))
-              → IsLexBelow (suc P.rank) (ratios P coord e b.0) (ratios P coord e k)
-          kept w k d ne (inl s) = subst (λ (k : ℕ). IsLexBelow (suc P.rank) (ratios P coord e b.0) (ratios P coord e k)) (sym s) w
+          kept : IsColumnBelow e b.0 n → (k : ℕ) → MayLeave P B coord e k → k ≢ b.0 → ((k ≡ n) ⊎ (k < n))
+              → IsColumnBelow e b.0 k
+          kept w k d ne (inl s) = subst (λ (k : ℕ). IsColumnBelow e b.0 k) (sym s) w
           kept w k d ne (inr l) = b.2 k l d ne
 
-          new : IsLexBelow (suc P.rank) (ratios P coord e n) (ratios P coord e b.0) → (k : ℕ) → MayLeave P B coord e k → k ≢ n → ((k ≡ n) ⊎ (k < n))
-              → ((k ≡ b.0) ⊎ (k ≢ b.0)) → IsLexBelow (suc P.rank) (ratios P coord e n) (ratios P coord e k)
+          new : IsColumnBelow e n b.0 → (k : ℕ) → MayLeave P B coord e k → k ≢ n → ((k ≡ n) ⊎ (k < n))
+              → ((k ≡ b.0) ⊎ (k ≢ b.0)) → IsColumnBelow e n k
           new w k d ne (inl s) t = absurd (ne s)
-          new w k d ne (inr l) (inl t) = subst (λ (k : ℕ). IsLexBelow (suc P.rank) (ratios P coord e n) (ratios P coord e k)) (sym t) w
+          new w k d ne (inr l) (inl t) = subst (λ (k : ℕ). IsColumnBelow e n k) (sym t) w
           new w k d ne (inr l) (inr t) = lex_transitive (suc P.rank) _ _ _ w (b.2 k l d t)
 
           same_as : (b.0 ≡ n) → (k : ℕ) → MayLeave P B coord e k → k ≢ b.0 → ((k ≡ n) ⊎ (k < n))
-              → IsLexBelow (suc P.rank) (ratios P coord e b.0) (ratios P coord e k)
+              → IsColumnBelow e b.0 k
           same_as s k d ne (inl t) = absurd (ne (t ∙ sym s))
           same_as s k d ne (inr l) = b.2 k l d ne
 
           choose : ((b.0 ≡ n) ⊎ (b.0 ≢ n))
-              → ((IsLexBelow (suc P.rank) (ratios P coord e b.0) (ratios P coord e n))
+              → ((IsColumnBelow e b.0 n)
               ⊎ (((j : ℕ) → j < suc P.rank → ratios P coord e b.0 j ≡ ratios P coord e n j)
-              ⊎ (IsLexBelow (suc P.rank) (ratios P coord e n) (ratios P coord e b.0))))
-              → ((l : ℕ) × (MayLeave P B coord e l)
-              × ((k : ℕ) → k < suc n → MayLeave P B coord e k → k ≢ l → IsLexBelow (suc P.rank) (ratios P coord e l) (ratios P coord e k)))
-              ⊎ ((k : ℕ) → k < suc n → MayLeave P B coord e k → ⊥)
+              ⊎ (IsColumnBelow e n b.0)))
+              → HasBest e (suc n)
           choose (inl s) w = inl (b.0, b.1, λ k lk d ne. same_as s k d ne (last_or_before k n lk))
           choose (inr m) (inl w) = inl (b.0, b.1, λ k lk d ne. kept w k d ne (last_or_before k n lk))
           choose (inr m) (inr (inl t)) = absurd (no_ties e b.0 n b.1 c m t)
@@ -235,7 +237,7 @@ module _ (P : Program) (B : ℕ → Bool) (coord start : ℕ → ℕ → Rationa
   one_leaves e k c = by (best_below e P.columns.count (omega arith))
     where
       by : ((l : ℕ) × (MayLeave P B coord e l)
-          × ((k : ℕ) → k < P.columns.count → MayLeave P B coord e k → k ≢ l → IsLexBelow (suc P.rank) (ratios P coord e l) (ratios P coord e k)))
+          × ((k : ℕ) → k < P.columns.count → MayLeave P B coord e k → k ≢ l → IsColumnBelow e l k))
           ⊎ ((k : ℕ) → k < P.columns.count → MayLeave P B coord e k → ⊥)
           → (l : ℕ) × IsOnlyLeaving P B coord e l
       by (inl b) =

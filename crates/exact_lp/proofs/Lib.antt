@@ -25,7 +25,6 @@ pub mod Separating
 pub mod ProgramOf
 pub mod RunEnds
 pub mod Settled
-pub mod Sound
 pub mod Ruled
 pub mod OneAnswer
 pub mod Starting

@@ -8,6 +8,10 @@ use Rattle.exact_linear.specs.Columns.{HasCoordinates}
 use Rattle.exact_linear.proofs.Places.{first_found, first_none}
 use Rattle.exact_lp.specs.Rule.{top, top_row}
 
+-- a column for each row, for each vector, and the two of the program's own
+abbrev pub HasWidth : Table → ℕ → Type 0
+HasWidth t m = rows_of t + m + 2 ≡ t.width
+
 -- a table that shows the coordinates of A
 pub record IsGood (A : Columns) (t : Table) : Type 0 where
   pub coordinates : HasCoordinates A t
@@ -16,7 +20,7 @@ pub record IsGood (A : Columns) (t : Table) : Type 0 where
 -- ---- the tables of the linear program
 pub record IsReady (A : Columns) (t : Table) (m : ℕ) : Type 0 where
   pub good : IsGood A t
-  pub width : rows_of t + m + 2 ≡ t.width
+  pub width : HasWidth t m
   pub row : 1 ≤ rows_of t
   pub top_is : (i : ℕ) × (i < rows_of t) × (basic_at t i ≡ top t m)
 

@@ -4,7 +4,7 @@ use Rattle.std.specs.Prelude.{if◌then◌else◌}
 use Rattle.std.proofs.Common.{arith, sym, ◌∙◌, ap, refl, subst, inl, inr}
 use Rattle.std.proofs.lemmas.List.{get_or-map, length-map}
 use Rattle.commutative_ring.proofs.Ring.{neg, v0}
-use Rattle.commutative_ring.proofs.SmallCases.{same_or_not, true_or_false}
+use Rattle.commutative_ring.proofs.SmallCases.{false_unless, same_or_not}
 use Rattle.exact_forms.specs.Rational.{Rational, whole, neg_ℚ}
 use Rattle.exact_forms.specs.Sums.{sum_ℚ}
 use Rattle.exact_forms.specs.Signs.{IsPositive, IsNegative, IsNonnegative}
@@ -196,13 +196,10 @@ module _ (P : Program) (t : Table) (m : ℕ) (cs : List ℕ) (B : ℕ → Bool) 
           (not_positive_fact (table_entry t (top_row t m) (slice_index_or cs j 0)) (n j (let r = T.rank in omega arith)))))))
 
   positive_not_basic : (e : ℕ) → e < P.columns.count → e ≢ P.top → IsPositive (coord e P.top) → B e ≡ false
-  positive_not_basic e le n h = by (true_or_false (B e))
-    where
-      by : ((B e ≡ true) ⊎ (B e ≡ false)) → B e ≡ false
-      by (inr f) = f
-      by (inl b) = absurd (zero_not_positive (subst IsPositive
-          (basis_mark P.columns B coord T.state.basis e le b P.top (top_within P t m cs B coord T)
-          ∙ mark_off P.columns e P.top (λ (s : P.top ≡ e). n (sym s))) h))
+  positive_not_basic e le n h =
+      false_unless (B e) (λ b. zero_not_positive (subst IsPositive
+      (basis_mark P.columns B coord T.state.basis e le b P.top (top_within P t m cs B coord T)
+      ∙ mark_off P.columns e P.top (λ (s : P.top ≡ e). n (sym s))) h))
 
   pub outside_names : IsOutsideOf P B coord (zeros_of t m) (outside_vector t m cs)
   outside_names =

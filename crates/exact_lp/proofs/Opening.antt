@@ -9,7 +9,6 @@ use Rattle.commutative_ring.proofs.Ring.{num, ◌⊕◌, neg, v0, v1, v2}
 use Rattle.commutative_ring.proofs.SmallCases.{below_of_test, here_or_before}
 use Rattle.exact_forms.specs.Rational.{Rational, ◌+ℚ◌, neg_ℚ, ◌<ℚ◌}
 use Rattle.exact_forms.specs.Signs.{IsPositive, IsNonnegative}
-use Rattle.exact_forms.specs.Copositive.{IsPerfect}
 use Rattle.exact_forms.specs.Coordinates.{IsShown, swapped, exchanged_coordinates}
 use Rattle.exact_forms.proofs.Rational.{ring_ℚ}
 use Rattle.exact_forms.proofs.RationalOrder.{lt-positive}
@@ -18,7 +17,7 @@ use Rattle.exact_forms.proofs.Shown.{exchange_shown}
 use Rattle.fraction128.specs.Order.{order_of}
 use Rattle.fraction128.proofs.Orders.{order_of_ranks}
 use Rattle.symmetric_matrix.specs.Symmetric.{Symmetric}
-use Rattle.exact_linear.proofs.FirstTables.{IsFirstTable, first_coordinates}
+use Rattle.exact_linear.proofs.FirstTables.{first_coordinates}
 use Rattle.exact_linear.proofs.Rectangles.{exchanged_rectangle, summed_rectangle}
 use Rattle.exact_linear.specs.Tables.{Table, rows_of, table_entry, basic_at}
 use Rattle.exact_linear.specs.Columns.{with_sum}
@@ -28,10 +27,11 @@ use Rattle.exact_linear.proofs.Summed.{coord_other, summed_shown}
 use Rattle.exact_lp.specs.Rule.{target, is_lower, least_row}
 use Rattle.exact_lp.specs.Placement.{first_table, firsts, opened, problem_of}
 use Rattle.exact_lp.specs.Program.{Program, IsProgram, IsState, IsLeastPlace}
+use Rattle.exact_lp.specs.OfVectors.{IsPlaceable}
 use Rattle.exact_lp.proofs.Right.{start_columns, low_of, count_is}
 use Rattle.exact_lp.proofs.Outcome.{top_not_chosen}
 use Rattle.exact_lp.proofs.Start.{start_state}
-use Rattle.exact_lp.proofs.FirstProgram.{the_first, the_program, first_free, first_coord, is_program}
+use Rattle.exact_lp.proofs.FirstProgram.{IsFirst, the_first, the_program, first_free, first_coord, is_program}
 use Rattle.exact_lp.proofs.Tableaux.{IsTableau}
 use Rattle.exact_lp.proofs.Starting.{IsStart, start_is}
 
@@ -49,13 +49,17 @@ pub record IsLeastRow (t : Table) (m best i : ℕ) : Type 0 where
 itself : (t : Table) (m i : ℕ) → IsNonnegative (excess t m i i)
 itself t m i = nonneg_zero _ (ring_ℚ (table_entry t i (target t m) ∷ []) (v0 ⊕ neg v0) (num (pos 0)) refl)
 
-least_kept : (t : Table) (m best i : ℕ) → IsLeastRow t m best i → IsNonnegative (excess t m best i)
-    → (basic_at t best < basic_at t i → IsPositive (excess t m best i)) → IsLeastRow t m best (i + 1)
-least_kept t m best i L n p = record {
-  before = let b = L.before in omega arith;
+least_to : (t : Table) (m best i : ℕ) → best < i + 1 → ((j : ℕ) → ((j ≡ i) ⊎ (j < i)) → IsNonnegative (excess t m best j))
+    → ((j : ℕ) → basic_at t best < basic_at t j → ((j ≡ i) ⊎ (j < i)) → IsPositive (excess t m best j)) → IsLeastRow t m best (i + 1)
+least_to t m best i before least last = record {
+  before = before;
   least = λ j l. least j (here_or_before j i l);
   last = λ j l h. last j h (here_or_before j i l);
 }
+
+least_kept : (t : Table) (m best i : ℕ) → IsLeastRow t m best i → IsNonnegative (excess t m best i)
+    → (basic_at t best < basic_at t i → IsPositive (excess t m best i)) → IsLeastRow t m best (i + 1)
+least_kept t m best i L n p = least_to t m best i (let b = L.before in omega arith) least last
   where
     least : (j : ℕ) → ((j ≡ i) ⊎ (j < i)) → IsNonnegative (excess t m best j)
     least j (inl s) = subst (λ (j : ℕ). IsNonnegative (excess t m best j)) (sym s) n
@@ -67,11 +71,7 @@ least_kept t m best i L n p = record {
 
 least_taken : (t : Table) (m i : ℕ) → ((j : ℕ) → j < i → IsNonnegative (excess t m i j))
     → ((j : ℕ) → j < i → basic_at t i < basic_at t j → IsPositive (excess t m i j)) → IsLeastRow t m i (i + 1)
-least_taken t m i n p = record {
-  before = omega arith;
-  least = λ j l. least j (here_or_before j i l);
-  last = λ j l h. last j h (here_or_before j i l);
-}
+least_taken t m i n p = least_to t m i i (omega arith) least last
   where
     least : (j : ℕ) → ((j ≡ i) ⊎ (j < i)) → IsNonnegative (excess t m i j)
     least j (inl s) = subst (λ (j : ℕ). IsNonnegative (excess t m i j)) (sym s) (itself t m i)
@@ -132,20 +132,18 @@ least_is t m h =
     (least_so_far t m 0 1 (rows_of t - 1) (least_taken t m 0 (λ j l. absurd (omega arith)) (λ j l h. absurd (omega arith))))
 
 -- ---- the first state
-module _ (vectors : List (List ℕ)) (s : Symmetric) (d : ℤ) (some : 1 ≤ s.size) (sizes : (k : ℕ) → k < length vectors
-    → length (slice_index_or vectors k []) ≡ s.size) (perfect : IsPerfect s.size vectors)
-    (F : IsFirstTable (start_columns vectors s) (low_of s) (low_of s + length vectors) (first_table (problem_of vectors s d))) where
+module _ (vectors : List (List ℕ)) (s : Symmetric) (d : ℤ) (g : IsPlaceable vectors s) (F : IsFirst vectors s d) where
   abbrev f : Table
-  f = the_first vectors s d some sizes perfect F
+  f = the_first vectors s d g F
 
   abbrev P : Program
-  P = the_program vectors s d some sizes perfect F
+  P = the_program vectors s d g F
 
   abbrev start : ℕ → ℕ → Rational
-  start = first_coord vectors s d some sizes perfect F
+  start = first_coord vectors s d g F
 
   R : IsProgram P start
-  R = is_program vectors s d some sizes perfect F
+  R = is_program vectors s d g F
 
   abbrev pub open_row : ℕ
   open_row = least_row f (length vectors) 0 1 (rows_of f - 1)
@@ -156,7 +154,7 @@ module _ (vectors : List (List ℕ)) (s : Symmetric) (d : ℤ) (some : 1 ≤ s.s
 
   some_rows : 1 ≤ rows_of f
   some_rows =
-      let S : IsStart (problem_of vectors s d).start (length vectors) = start_is vectors s (problem_of vectors s d).start some refl in
+      let S : IsStart (problem_of vectors s d).start (length vectors) = start_is vectors s (problem_of vectors s d).start g.some refl in
       let a = S.row in
       let b = F.rows in
       let w = S.width in
@@ -173,7 +171,7 @@ module _ (vectors : List (List ℕ)) (s : Symmetric) (d : ℤ) (some : 1 ≤ s.s
   pub at_basic : (i : ℕ) → i < rows_of f → start P.target (basic_at f i) ≡ table_entry f i (target f (length vectors))
   at_basic i l =
       coord_other (start_columns vectors s) f (first_coordinates (start_columns vectors s) (low_of s) (low_of s + length vectors) f F)
-      (first_free vectors s d some sizes perfect F) P.target (basic_at f i) (let c = count_is vectors s in omega arith)
+      (first_free vectors s d g F) P.target (basic_at f i) (let c = count_is vectors s in omega arith)
       ∙ sym (F.shown.entry i P.target l (let c = count_is vectors s in omega arith))
       ∙ ap (λ (r : ℕ). table_entry f i (r + length vectors)) (sym F.rows)
 
@@ -214,7 +212,7 @@ module _ (vectors : List (List ℕ)) (s : Symmetric) (d : ℤ) (some : 1 ≤ s.s
       (sym (exchanged_rows (with_sum f) open_row P.top))
       (exchange_shown P.columns F.basis start (rows_of f) (table_entry (with_sum f)) (basic_at f) R.basis
       (summed_shown (start_columns vectors s) f (first_coordinates (start_columns vectors s) (low_of s) (low_of s + length vectors) f F)
-      (first_free vectors s d some sizes perfect F))
+      (first_free vectors s d g F))
       open_row P.top row_is.before R.top_within (top_not_chosen P start R) (table_entry (exchanged (with_sum f) open_row P.top))
       (basic_at (exchanged (with_sum f) open_row P.top))
       (exchanged_is (with_sum f) P.columns.count open_row P.top (summed_rectangle f F.rectangle) F.width row_is.before (let a = R.top_within in

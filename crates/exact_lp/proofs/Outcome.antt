@@ -3,7 +3,7 @@ use Rattle.std.specs.Prelude.{◌≡◌, ◌≢◌, ℕ, suc, ◌<◌, ◌≤◌
 use Rattle.std.proofs.Common.{arith, sym, ◌∙◌, ap, ap₂, refl, subst, inl, inr}
 use Rattle.exact_forms.proofs.RationalSums.{sum_ℚ_same, sum_ℚ_none, sum_ℚ-add, mul-sum_ℚ, sum_ℚ_swap, sum_ℚ_one}
 use Rattle.commutative_ring.proofs.Ring.{num, ◌⊕◌, ◌⊗◌, neg, v0, v1, v2, v3, v4}
-use Rattle.commutative_ring.proofs.SmallCases.{same_or_not, three_ways, true_or_false}
+use Rattle.commutative_ring.proofs.SmallCases.{names_apart, same_or_not, true_or_false}
 use Rattle.exact_forms.specs.Rational.{Rational, whole, neg_ℚ, ◌+ℚ◌, ◌*ℚ◌}
 use Rattle.exact_forms.specs.Sums.{sum_ℚ}
 use Rattle.exact_forms.proofs.Slacks.{replaced_here, replaced_other}
@@ -33,12 +33,7 @@ times_first P k = sum_ℚ P.rank (λ j. mark (P.first j) k)
 
 module _ (P : Program) (start : ℕ → ℕ → Rational) (R : IsProgram P start) where
   pub first_apart : (i j : ℕ) → i < P.rank → j < P.rank → i ≢ j → P.first i ≢ P.first j
-  first_apart i j li lj ne e = by (three_ways i j)
-    where
-      by : ((i < j) ⊎ ((i ≡ j) ⊎ (j < i))) → ⊥
-      by (inl l) = let a = R.increasing i j l lj in omega arith
-      by (inr (inl s)) = ne s
-      by (inr (inr l)) = let a = R.increasing j i l li in omega arith
+  first_apart = names_apart P.first P.rank (λ i j l lj e. let a = R.increasing i j l lj in omega arith)
 
   times_chosen : (k : ℕ) → k < P.columns.count → P.chosen k ≡ true → times_first P k ≡ whole (pos 1)
   times_chosen k l c =

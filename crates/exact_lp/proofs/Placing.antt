@@ -84,20 +84,23 @@ opening_unsettled : (p : Problem) → first_owed entry_is_owed (first_ops p.star
 opening_unsettled p h s = opening_then p h ∙ ap (λ (b : Bool). first_owed_in (if b then [] else map Tableau (opened_ops (first_table p) p.vectors))) s
 
 -- ---- the closing
-closing_last : (p : Problem) (k : ℕ) → is_last p k ≡ true → closing_ops p k ≡ weight_ops (last_table p k) p.vectors (firsts p) p.d 0 p.vectors
-unfolding closing_ops
-closing_last p k h = ap (λ (b : Bool). if b then weight_ops (last_table p k) p.vectors (firsts p) p.d 0 p.vectors
-    else elim (entering (table_after p k) p.vectors) as (λ _. List PlaceOp)
-    [ None ↦ [] | Some e ↦ map Tableau (step_ops (table_after p k) p.vectors (firsts p) e) ]) h
+-- the operations of a step that is due
+abbrev ops_of_step : Problem → ℕ → Option ℕ → List PlaceOp
+ops_of_step p k o = elim o as (λ _. List PlaceOp) [ None ↦ [] | Some e ↦ map Tableau (step_ops (table_after p k) p.vectors (firsts p) e) ]
 
-closing_step : (p : Problem) (k : ℕ) (o : Option ℕ) → is_last p k ≡ false → entering (table_after p k) p.vectors ≡ o
-    → closing_ops p k ≡ elim o as (λ _. List PlaceOp) [ None ↦ [] | Some e ↦ map Tableau (step_ops (table_after p k) p.vectors (firsts p) e) ]
+closing_as : (p : Problem) (k : ℕ) (b : Bool) → is_last p k ≡ b
+    → closing_ops p k
+    ≡ (if b then weight_ops (last_table p k) p.vectors (firsts p) p.d 0 p.vectors else ops_of_step p k (entering (table_after p k) p.vectors))
 unfolding closing_ops
-closing_step p k o h e =
+closing_as p k b h =
     ap (λ (b : Bool). if b then weight_ops (last_table p k) p.vectors (firsts p) p.d 0 p.vectors
-    else elim (entering (table_after p k) p.vectors) as (λ _. List PlaceOp)
-    [ None ↦ [] | Some e ↦ map Tableau (step_ops (table_after p k) p.vectors (firsts p) e) ]) h
-    ∙ ap (λ (o : Option ℕ). elim o as (λ _. List PlaceOp) [ None ↦ [] | Some e ↦ map Tableau (step_ops (table_after p k) p.vectors (firsts p) e) ]) e
+    else ops_of_step p k (entering (table_after p k) p.vectors)) h
+
+closing_last : (p : Problem) (k : ℕ) → is_last p k ≡ true → closing_ops p k ≡ weight_ops (last_table p k) p.vectors (firsts p) p.d 0 p.vectors
+closing_last p k h = closing_as p k true h
+
+closing_step : (p : Problem) (k : ℕ) (o : Option ℕ) → is_last p k ≡ false → entering (table_after p k) p.vectors ≡ o → closing_ops p k ≡ ops_of_step p k o
+closing_step p k o h e = closing_as p k false h ∙ ap (λ (o : Option ℕ). ops_of_step p k o) e
 
 leg_then : (p : Problem) (k : ℕ) (ops : List PlaceOp) → first_owed_in (opening_ops p k) ≡ None → closing_ops p k ≡ ops
     → first_owed_in (leg_ops p k) ≡ first_owed_in ops

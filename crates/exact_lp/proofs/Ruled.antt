@@ -1,73 +1,89 @@
--- The answers of the linear program are those of its rule, in coordinates.
-use Rattle.std.specs.Prelude.{◌≡◌, ℕ, zero, suc, ◌+◌, ◌<◌, ◌≤◌, ℤ, Bool, true, false, ◌||◌, ◌⊎◌, List, [], length, slice_index_or, if◌then◌else◌}
+-- The answers of the linear program are those of its rule, in coordinates, and mean what they say; and a row can always leave.
+use Rattle.std.specs.Prelude.{◌≡◌, ℕ, zero, suc, ◌+◌, ◌<◌, ◌≤◌, ℤ, pos, ◌≤ℤ◌, Bool, true, false, ◌||◌, ◌⊎◌, List, [], length, slice_index_or, if◌then◌else◌}
 use Rattle.std.proofs.Common.{arith, sym, ◌∙◌, ap, refl, subst, inl, inr}
 use Rattle.commutative_ring.proofs.SmallCases.{here_or_before}
 use Rattle.exact_forms.specs.Rational.{Rational, whole, ◌/ℚ◌}
 use Rattle.exact_forms.specs.Signs.{IsNonnegative}
-use Rattle.exact_forms.specs.Copositive.{IsPerfect}
 use Rattle.symmetric_matrix.specs.Symmetric.{Symmetric}
-use Rattle.exact_linear.proofs.FirstTables.{IsFirstTable}
-use Rattle.exact_linear.specs.Tables.{rows_of}
+use Rattle.exact_linear.specs.Tables.{Table, rows_of}
+use Rattle.exact_linear.specs.Separation.{IsSeparating}
+use Rattle.exact_linear.proofs.SquareColumns.{target_column}
 use Rattle.exact_lp.specs.declared.placed.Exchange.{Exchange}
 use Rattle.exact_lp.specs.declared.placed.Placed.{Placed}
 use Rattle.exact_lp.specs.declared.placed.Placed.TheVariants.{Inside, Outside, Pivots, Wide, OutOfMemory}
 use Rattle.exact_lp.specs.Rule.{is_inside}
 use Rattle.exact_lp.specs.Placement.{Problem, first_table, firsts, table_after, is_settled_first, is_last, last_table, coefficient, steps_of, IsStepDue, IsRun}
+use Rattle.exact_lp.specs.Placement.{HasLeavingRows}
+use Rattle.exact_lp.specs.OfVectors.{IsPlaceable, IsProgramOf}
 use Rattle.exact_lp.specs.Placement.{IsInsideAfter, IsOutsideAfter, IsRefusedAfter, IsPlaceAnswer, problem_of}
 use Rattle.exact_lp.specs.Program.{Program, IsProgram, EndsInside, EndsOutside, IsEntering, IsLeaving, IsNonnegativeProgram}
 use Rattle.exact_lp.specs.Simplex.{step_at, entering_column, leaving_column, basis_after, coordinates_after, IsSimplexOf, IsOutsideOf}
-use Rattle.exact_lp.specs.Weights.{weight_in}
+use Rattle.exact_lp.specs.Weights.{weight_in, AreWeights, IsSound}
 use Rattle.exact_lp.specs.Ruled.{IsInsideEnd, IsStepLeft, IsRuled}
 use Rattle.exact_lp.proofs.InsideAnswer.{the_basis, linear_program, start as start_of, least as least_of, open_basis, open_coord, is_linear_program}
-use Rattle.exact_lp.proofs.InsideAnswer.{is_nonnegative_program, first_tableau, last_inside}
+use Rattle.exact_lp.proofs.InsideAnswer.{is_nonnegative_program, first_tableau, last_inside, inside_answer}
+use Rattle.exact_lp.proofs.FirstBasis.{units_and_vectors}
+use Rattle.exact_lp.proofs.FirstProgram.{IsFirst}
+use Rattle.exact_lp.proofs.ProgramOf.{program_of_vectors}
 use Rattle.exact_lp.proofs.InsideRight.{weights_at, coefficient_is, settled_nonneg, settled_coefficient}
 use Rattle.exact_lp.proofs.Opening.{IsLeastRow, place, at_basic, open_row, row_is, is_least_place}
-use Rattle.exact_lp.proofs.Right.{start_columns, low_of, count_is, not_inside}
-use Rattle.exact_lp.proofs.RunEnds.{run_is, last_tableau, inside_end, outside_end, outside_named}
+use Rattle.exact_lp.proofs.Right.{start_columns, low_of, count_is, not_inside, outside_right}
+use Rattle.exact_lp.proofs.RunEnds.{run_is, last_tableau, inside_end, outside_end, outside_named, outside_separates}
 use Rattle.exact_lp.proofs.RunFront.{AreSameTo, basis_to, coordinates_to}
-use Rattle.exact_lp.proofs.Runs.{length-steps_of, step_is, simplex_run}
+use Rattle.exact_lp.proofs.Runs.{length-steps_of, step_is, simplex_run, row_there}
 use Rattle.exact_lp.proofs.Settled.{opened_top, opened_weight}
-use Rattle.exact_lp.proofs.Sound.{is_program_of}
 use Rattle.exact_lp.proofs.Tableaux.{IsTableau}
-use Rattle.exact_lp.proofs.TableFacts.{not_inside_fact}
+use Rattle.exact_lp.proofs.TableFacts.{not_inside_fact, ready}
 
-module _ (vectors : List (List ℕ)) (s : Symmetric) (d : ℤ) (some : 1 ≤ s.size) (sizes : (k : ℕ) → k < length vectors
-    → length (slice_index_or vectors k []) ≡ s.size) (perfect : IsPerfect s.size vectors) where
+pub leaving_rows_as : (t u : Table) (m n : ℕ) (d e : Rational) → t ≡ u → m ≡ n → d ≡ e → HasLeavingRows (record { start = u; vectors = n; d = e })
+    → HasLeavingRows (record { start = t; vectors = m; d = d })
+leaving_rows_as t u m n d e f g h H =
+    subst (λ (t : Table). HasLeavingRows (record { start = t; vectors = m; d = d })) (sym f)
+    (subst (λ (m : ℕ). HasLeavingRows (record { start = u; vectors = m; d = d })) (sym g)
+    (subst (λ (d : Rational). HasLeavingRows (record { start = u; vectors = n; d = d })) (sym h) H))
+
+module _ (vectors : List (List ℕ)) (s : Symmetric) (d : ℤ) (g : IsPlaceable vectors s) where
   abbrev p : Problem
   p = problem_of vectors s d
 
-  abbrev B : IsFirstTable (start_columns vectors s) (low_of s) (low_of s + length vectors) (first_table p)
-  B = the_basis vectors s d some sizes perfect
+  abbrev B : IsFirst vectors s d
+  B = the_basis vectors s d g
 
   abbrev P : Program
-  P = linear_program vectors s d some sizes perfect
+  P = linear_program vectors s d g
 
   abbrev start : ℕ → ℕ → Rational
-  start = start_of vectors s d some sizes perfect
+  start = start_of vectors s d g
 
   abbrev least : ℕ
-  least = least_of vectors s d some sizes perfect
+  least = least_of vectors s d g
 
   abbrev basis : ℕ → Bool
-  basis = open_basis vectors s d some sizes perfect
+  basis = open_basis vectors s d g
 
   abbrev coord : ℕ → ℕ → Rational
-  coord = open_coord vectors s d some sizes perfect
+  coord = open_coord vectors s d g
 
   R : IsProgram P start
-  R = is_linear_program vectors s d some sizes perfect
+  R = is_linear_program vectors s d g
 
   N : IsNonnegativeProgram P
-  N = is_nonnegative_program vectors s d some sizes perfect
+  N = is_nonnegative_program vectors s d g
 
   T : IsTableau P (table_after p 0) (length vectors) (firsts p) basis coord
-  T = first_tableau vectors s d some sizes perfect
+  T = first_tableau vectors s d g
 
-  lowest : IsLeastRow (first_table p) (length vectors) (open_row vectors s d some sizes perfect B) (rows_of (first_table p))
-  lowest = row_is vectors s d some sizes perfect B
+  pub is_program_of : IsProgramOf P vectors s
+  is_program_of =
+      program_of_vectors (start_columns vectors s) (first_table p) (low_of s) (length vectors) P.rank P.first P.chosen vectors s refl refl refl
+      (sym (count_is vectors s)) (units_and_vectors vectors s g.sizes)
+      (the_basis vectors s d g).first.first (λ i j li lj. target_column s.size vectors s i j)
+
+  lowest : IsLeastRow (first_table p) (length vectors) (open_row vectors s d g B) (rows_of (first_table p))
+  lowest = row_is vectors s d g B
 
   lowest_place : least < P.rank
-  lowest_place = (place vectors s d some sizes perfect B).1
+  lowest_place = (place vectors s d g B).1
 
   first_chosen : P.chosen (P.first least) ≡ true
   first_chosen = R.first_is_chosen least lowest_place
@@ -79,9 +95,9 @@ module _ (vectors : List (List ℕ)) (s : Symmetric) (d : ℤ) (some : 1 ≤ s.s
   pub simplex_steps : (k : ℕ) → ((j : ℕ) → j < k → IsStepDue p j) → IsSimplexOf vectors s (steps_of p k)
   simplex_steps k due = record {
     is_program = R;
-    of_vectors = is_program_of vectors s d some sizes perfect;
+    of_vectors = is_program_of;
     place = least;
-    least = is_least_place vectors s d some sizes perfect B;
+    least = is_least_place vectors s d g B;
     run = simplex_run P p basis coord start R N k T due;
   }
 
@@ -89,9 +105,9 @@ module _ (vectors : List (List ℕ)) (s : Symmetric) (d : ℤ) (some : 1 ≤ s.s
     abbrev simplex : IsSimplexOf vectors s steps
     simplex = record {
       is_program = R;
-      of_vectors = is_program_of vectors s d some sizes perfect;
+      of_vectors = is_program_of;
       place = least;
-      least = is_least_place vectors s d some sizes perfect B;
+      least = is_least_place vectors s d g B;
       run = run_is P p basis coord start R N T budget steps run;
     }
 
@@ -104,18 +120,24 @@ module _ (vectors : List (List ℕ)) (s : Symmetric) (d : ℤ) (some : 1 ≤ s.s
     last : IsTableau P (table_after p (length steps)) (length vectors) (firsts p) after_basis after
     last = last_tableau P p basis coord start R N T budget steps run
 
-    -- ---- Inside, where the first basis doesn't settle it
+    -- ---- Inside
+    weight_as : (found : List Rational) → IsInsideAfter p found (length steps) → (b : Bool) → is_settled_first p ≡ b → (k : ℕ) → k < length vectors
+        → weight_in found k ≡ coefficient (if b then first_table p else table_after p (length steps)) (length vectors) (firsts p) k /ℚ whole d
+    weight_as found I b h k l =
+        ap (λ (xs : List Rational). weight_in xs k) I.found_are
+        ∙ weights_at (last_table p (length steps)) (length vectors) (firsts p) (whole d) k l
+        ∙ ap (λ (b : Bool). coefficient (if b then first_table p else table_after p (length steps)) (length vectors) (firsts p) k /ℚ whole d) h
+
+    -- where the first basis doesn't settle it
     weights_after : (found : List Rational) → IsInsideAfter p found (length steps) → is_settled_first p ≡ false → IsInsideEnd P after (length vectors) d found
     weights_after found I h = record {
       inside = inside_end P p basis coord start R N T budget steps run (last_inside p (length steps) I.last h);
       weights = λ k l.
-          ap (λ (xs : List Rational). weight_in xs k) I.found_are
-          ∙ weights_at (last_table p (length steps)) (length vectors) (firsts p) (whole d) k l
-          ∙ ap (λ (b : Bool). coefficient (if b then first_table p else table_after p (length steps)) (length vectors) (firsts p) k /ℚ whole d) h
+          weight_as found I false h k l
           ∙ ap (λ w. w /ℚ whole d) (coefficient_is P (table_after p (length steps)) (length vectors) (firsts p) after_basis after start last R k l);
     }
 
-    -- ---- Inside, where it does
+    -- and where it does
     no_steps : is_settled_first p ≡ true → length steps ≡ 0
     unfolding is_last
     no_steps h = by (length steps) refl
@@ -134,20 +156,18 @@ module _ (vectors : List (List ℕ)) (s : Symmetric) (d : ℤ) (some : 1 ≤ s.s
     settled_inside h = record {
       here = subst IsNonnegative
           (sym (opened_top P start R (P.first least) first_within first_chosen
-          ∙ ap (start P.target) (place vectors s d some sizes perfect B).2
-          ∙ at_basic vectors s d some sizes perfect B (open_row vectors s d some sizes perfect B) lowest.before))
-          (settled_nonneg (first_table p) (length vectors) h (open_row vectors s d some sizes perfect B) lowest.before);
+          ∙ ap (start P.target) (place vectors s d g B).2
+          ∙ at_basic vectors s d g B (open_row vectors s d g B) lowest.before))
+          (settled_nonneg (first_table p) (length vectors) h (open_row vectors s d g B) lowest.before);
     }
 
     weights_first : (found : List Rational) → IsInsideAfter p found (length steps) → is_settled_first p ≡ true → IsInsideEnd P coord (length vectors) d found
     weights_first found I h = record {
       inside = settled_inside h;
       weights = λ k l.
-          ap (λ (xs : List Rational). weight_in xs k) I.found_are
-          ∙ weights_at (last_table p (length steps)) (length vectors) (firsts p) (whole d) k l
-          ∙ ap (λ (b : Bool). coefficient (if b then first_table p else table_after p (length steps)) (length vectors) (firsts p) k /ℚ whole d) h
+          weight_as found I true h k l
           ∙ ap (λ w. w /ℚ whole d)
-          (settled_coefficient vectors s d some sizes perfect B (firsts p) k l
+          (settled_coefficient vectors s d g B (firsts p) k l
           ∙ sym (opened_weight P start R (P.first least) first_within first_chosen (P.low + k) (let c = count_is vectors s in
           omega arith) (λ e. absurd (omega arith))));
     }
@@ -208,3 +228,28 @@ module _ (vectors : List (List ℕ)) (s : Symmetric) (d : ℤ) (some : 1 ≤ s.s
   ruled budget (Pivots steps) A = (simplex budget steps A.0, step_left budget steps A.0 A.1)
   ruled budget (Wide op steps) A = simplex budget steps A.0
   ruled budget OutOfMemory A = tt
+
+  -- ---- the answers mean what they say, and a row can always leave
+  outside_answer : (budget : ℕ) (zeros : List ℕ) (vector : ℕ) (steps : List Exchange) → pos 1 ≤ℤ d → IsRun p budget steps
+      → IsOutsideAfter p zeros vector (length steps)
+      → ((c : ℕ → Rational) → AreWeights s.size vectors s d c → ⊥) × (IsSeparating s.size vectors s zeros vector)
+  outside_answer budget zeros vector steps hd run out =
+      let last = last_tableau P p basis coord start R N T budget steps run in (
+        λ c W.
+            outside_right vectors s d (table_after p (length steps)) c hd g.sizes
+            (ready P (table_after p (length steps)) (length vectors) (firsts p) (basis_after P basis steps (length steps))
+            (coordinates_after P coord steps (length steps)) last)
+            (not_inside p (length steps) out.not_last) out.none W,
+        outside_separates P p basis coord start R N T budget steps run zeros vector out vectors s is_program_of,
+      )
+
+  pub sound : (budget : ℕ) (r : Placed) → pos 1 ≤ℤ d → IsPlaceAnswer p budget r → IsSound s.size vectors s d r
+  sound budget (Inside found steps) hd A = inside_answer vectors s d g (length steps) found hd A.0.due A.1
+  sound budget (Outside zeros vector steps) hd A = outside_answer budget zeros vector steps hd A.0 A.1
+  sound budget (Pivots steps) hd A = tt
+  sound budget (Wide op steps) hd A = tt
+  sound budget OutOfMemory hd A = tt
+
+  pub leaving_rows : HasLeavingRows p
+  leaving_rows =
+      record { row = λ k due n. absurd (let r = (row_there P p basis coord start R N (suc k) T (λ j l. due j (omega arith)) k (omega arith)).1 in cc) }

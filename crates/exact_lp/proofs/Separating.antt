@@ -4,7 +4,7 @@ use Rattle.std.specs.List.{Contains}
 use Rattle.std.proofs.Common.{arith, sym, ◌∙◌, ap, subst, inl, inr, length-append, get_or-append-add}
 use Rattle.std.proofs.Math.ListN.{get_or-append}
 use Rattle.std.proofs.lemmas.List.{get_or-map, length-map}
-use Rattle.commutative_ring.proofs.SmallCases.{apart_ways, here_or_before}
+use Rattle.commutative_ring.proofs.SmallCases.{names_apart as all_apart, here_or_before}
 use Rattle.exact_forms.specs.Rational.{Rational, whole}
 use Rattle.exact_forms.specs.Signs.{IsPositive}
 use Rattle.exact_forms.specs.Slacks.{replaced}
@@ -85,11 +85,7 @@ module _ (P : Program) (B : ℕ → Bool) (coord start : ℕ → ℕ
       by (inr m) = let n = name_before zeros leaving j m in let less = Z.increasing i j h m in let b = before in omega arith
 
   columns_apart : (i j : ℕ) → i < length zeros + 1 → j < length zeros + 1 → i ≢ j → P.low + name_at names i ≢ P.low + name_at names j
-  columns_apart i j li lj n e = by (apart_ways i j n)
-    where
-      by : ((i < j) ⊎ (j < i)) → ⊥
-      by (inl l) = names_apart i j l lj (omega arith)
-      by (inr l) = names_apart j i l li (omega arith)
+  columns_apart = all_apart (λ i. P.low + name_at names i) (length zeros + 1) (λ i j l lj e. names_apart i j l lj (omega arith))
 
   named_vector : (i : ℕ) → i < length zeros + 1 → slice_index_or (named vectors names) i [] ≡ vector_at vectors (name_at names i)
   named_vector i l = get_or-map (vector_at vectors) names i 0 [] (let a = length-append zeros (leaving ∷ []) in omega arith)

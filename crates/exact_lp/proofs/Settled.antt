@@ -1,5 +1,5 @@
 -- Where t has come in, before the first step: the coordinates of the target, and its weights; and where the first basis settles it.
-use Rattle.std.specs.Prelude.{◌≡◌, ◌≢◌, ℕ, ◌<◌, ◌⊎◌, pos, true, false, cond, List, [], ◌∷◌}
+use Rattle.std.specs.Prelude.{◌≡◌, ◌≢◌, ℕ, ◌<◌, ◌⊎◌, pos, Bool, true, false, cond, List, [], ◌∷◌}
 use Rattle.std.proofs.Common.{arith, sym, ◌∙◌, ap, ap₂, refl, subst, inl, inr}
 use Rattle.commutative_ring.proofs.Ring.{num, ◌⊕◌, ◌⊗◌, neg, v0, v1}
 use Rattle.commutative_ring.proofs.SmallCases.{true_or_false}
@@ -48,13 +48,17 @@ module _ (P : Program) (start : ℕ → ℕ → Rational) (R : IsProgram P start
       off : mark P.top k ≡ whole (pos 0)
       off = mark_off P.columns P.top k n
 
+      parts : (x : Rational) (b : Bool) → start P.top k ≡ x → P.chosen k ≡ b
+          → opened P.target k +ℚ cond (P.chosen k) (start P.target r) (whole (pos 0))
+          ≡ (start P.target k +ℚ start P.target r *ℚ (whole (pos 0) +ℚ neg_ℚ x)) +ℚ cond b (start P.target r) (whole (pos 0))
+      parts x b e c = ap₂ (λ v w. v +ℚ w) (at k (whole (pos 0)) x off e) (ap (λ b. cond b (start P.target r) (whole (pos 0))) c)
+
       by : ((P.chosen k ≡ true) ⊎ (P.chosen k ≡ false)) → opened P.target k +ℚ cond (P.chosen k) (start P.target r) (whole (pos 0)) ≡ start P.target k
       by (inl c) =
-          ap₂ (λ v w. v +ℚ w) (at k (whole (pos 0)) (whole (pos 1)) off (top_at_chosen P start R k l c)) (ap (λ b. cond b (start P.target r) (whole (pos 0))) c)
+          parts (whole (pos 1)) true (top_at_chosen P start R k l c) c
           ∙ ring_ℚ (start P.target k ∷ start P.target r ∷ []) ((v0 ⊕ v1 ⊗ (num (pos 0) ⊕ neg (num (pos 1)))) ⊕ v1) v0 refl
       by (inr c) =
-          ap₂ (λ v w. v +ℚ w) (at k (whole (pos 0)) (whole (pos 0)) off ((R.basis.written P.top R.top_within).outside k l c))
-          (ap (λ b. cond b (start P.target r) (whole (pos 0))) c)
+          parts (whole (pos 0)) false ((R.basis.written P.top R.top_within).outside k l c) c
           ∙ ring_ℚ (start P.target k ∷ start P.target r ∷ []) ((v0 ⊕ v1 ⊗ (num (pos 0) ⊕ neg (num (pos 0)))) ⊕ num (pos 0)) v0 refl
 
 -- ---- the coordinates of S over the first basis are at least 0

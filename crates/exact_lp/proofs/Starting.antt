@@ -11,9 +11,10 @@ use Rattle.exact_linear.proofs.SquareLists.{length-squares}
 use Rattle.exact_linear.proofs.StartTable.{some_units, start_rows, start_basic}
 use Rattle.exact_lp.specs.declared.placed.Placed.{Placed}
 use Rattle.exact_lp.specs.Placement.{IsPlaceAnswer}
+use Rattle.exact_lp.proofs.Meaning.{HasWidth}
 
 pub record IsStart (t : Table) (m : ℕ) : Type 0 where
-  pub width : rows_of t + m + 2 ≡ t.width
+  pub width : HasWidth t m
   pub row : 1 ≤ rows_of t
   pub units : (i : ℕ) → i < rows_of t → basic_at t i < rows_of t
 

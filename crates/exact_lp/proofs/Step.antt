@@ -1,8 +1,8 @@
 -- A step of the linear program.
 use Rattle.std.specs.Prelude.{◌≡◌, ◌≢◌, ℕ, suc, ◌<◌, ◌≤◌, pos, Bool, true, false, ◌⊎◌, [], ◌∷◌}
-use Rattle.std.proofs.Common.{sym, ◌∙◌, ap, ap₂, refl, subst, inl, inr}
+use Rattle.std.proofs.Common.{arith, sym, ◌∙◌, ap, ap₂, refl, subst, inl, inr}
 use Rattle.commutative_ring.proofs.Ring.{num, ◌⊕◌, ◌⊗◌, neg, v0, v1, v2}
-use Rattle.commutative_ring.proofs.SmallCases.{same_or_not, true_or_false}
+use Rattle.commutative_ring.proofs.SmallCases.{false_unless, same_or_not}
 use Rattle.exact_forms.specs.Slacks.{replaced}
 use Rattle.exact_forms.specs.Rational.{Rational, whole, inverse, neg_ℚ, ◌+ℚ◌, ◌*ℚ◌, ◌/ℚ◌}
 use Rattle.exact_forms.proofs.Slacks.{replaced_here, replaced_other}
@@ -11,7 +11,7 @@ use Rattle.exact_forms.specs.Signs.{IsPositive}
 use Rattle.exact_forms.specs.Lexicographic.{IsLexPositive, IsLexBelow}
 use Rattle.exact_forms.specs.Coordinates.{swapped, exchanged_coordinates}
 use Rattle.exact_lp.specs.Program.{Program, order, IsProgram, IsEntering, IsLeaving, IsState, ratios}
-use Rattle.exact_lp.proofs.Within.{column_of_vector, order_within}
+use Rattle.exact_lp.proofs.Within.{order_within}
 use Rattle.exact_forms.proofs.Signs.{Sign, above, none, below, sign_of, positive_inverse, positive_not_zero, zero_not_positive, negative_opposite}
 use Rattle.exact_forms.proofs.Lexicographic.{lex_same, lex_difference, lex_below, lex_add, lex_times}
 use Rattle.exact_forms.proofs.Coordinates.{mark_off, basis_mark, exchange_keeps}
@@ -25,14 +25,11 @@ lex_quotient n f c hc p =
 module _ (P : Program) (B : ℕ → Bool) (coord start : ℕ → ℕ → Rational) (R : IsProgram P start) (H : IsState P B coord) where
   -- the entering column is not in the basis
   pub entering_outside : (e : ℕ) → IsEntering P coord e → B e ≡ false
-  entering_outside e E = by (true_or_false (B e))
-    where
-      by : ((B e ≡ true) ⊎ (B e ≡ false)) → B e ≡ false
-      by (inr f) = f
-      by (inl t) = absurd (zero_not_positive (subst IsPositive
-          (ap neg_ℚ (basis_mark P.columns B coord H.basis e (column_of_vector P start R e E.high) t P.top R.top_within
-          ∙ mark_off P.columns e P.top (λ (s : P.top ≡ e). R.top_apart e E.low E.high (sym s)))
-          ∙ ring_ℚ [] (neg (num (pos 0))) (num (pos 0)) refl) ((negative_opposite _).0 E.negative)))
+  entering_outside e E =
+      false_unless (B e) (λ t. zero_not_positive (subst IsPositive
+      (ap neg_ℚ (basis_mark P.columns B coord H.basis e (let a = R.vectors in let b = E.high in omega arith) t P.top R.top_within
+      ∙ mark_off P.columns e P.top (λ (s : P.top ≡ e). R.top_apart e E.low E.high (sym s)))
+      ∙ ring_ℚ [] (neg (num (pos 0))) (num (pos 0)) refl) ((negative_opposite _).0 E.negative)))
 
   -- ---- the lists after a step
   list_other : (l e k j : ℕ) → k ≢ e → exchanged_coordinates coord l e j k ≡ coord j k +ℚ neg_ℚ (coord e k) *ℚ (coord j l /ℚ coord e l)
@@ -77,7 +74,7 @@ module _ (P : Program) (B : ℕ → Bool) (coord start : ℕ → ℕ → Rationa
 
   pub step_keeps : (e l : ℕ) → IsEntering P coord e → IsLeaving P B coord e l → IsState P (swapped B l e) (exchanged_coordinates coord l e)
   step_keeps e l E L =
-      let le : e < P.columns.count = column_of_vector P start R e E.high in
+      let le : e < P.columns.count = (let a = R.vectors in let b = E.high in omega arith) in
       let be : B e ≡ false = entering_outside e E in
       let ll : l < P.columns.count = L.candidate.within in
       let bl : B l ≡ true = L.candidate.basic in

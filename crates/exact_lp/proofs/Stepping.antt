@@ -45,11 +45,15 @@ stepped_is t m cs e r h = ap (λ (o : Option ℕ). elim o as (λ _. Table) [ Non
 
 module _ (P : Program) (t : Table) (m : ℕ) (cs : List ℕ) (B : ℕ → Bool) (coord start : ℕ → ℕ
     → Rational) (T : IsTableau P t m cs B coord) (R : IsProgram P start) where
+  -- the ratios of one row are below those of another
+  abbrev IsRowBelow : ℕ → ℕ → ℕ → Type 0
+  IsRowBelow e a b = IsLexBelow (suc P.rank) (ratios P coord e (basic_at t a)) (ratios P coord e (basic_at t b))
+
   ranks_length : length (target t m ∷ cs) ≡ suc P.rank
   ranks_length = ap (λ (n : ℕ). suc n) T.rank
 
   beats_fact : (e b i : ℕ) → e < P.columns.count → b < rows_of t → i < rows_of t → beats t e b i (target t m ∷ cs) ≡ true
-      → IsLexBelow (suc P.rank) (ratios P coord e (basic_at t i)) (ratios P coord e (basic_at t b))
+      → IsRowBelow e i b
   beats_fact e b i le lb li h =
       lex_of (suc P.rank) _ _ _ _ (λ j l. quotients_are P t m cs B coord start T R e i j le li l)
       (λ j l. quotients_are P t m cs B coord start T R e b j le lb l)
@@ -57,7 +61,7 @@ module _ (P : Program) (t : Table) (m : ℕ) (cs : List ℕ) (B : ℕ → Bool) 
       (beats_is t e b i (target t m ∷ cs) h))
 
   not_beats_fact : (e b i : ℕ) → e < P.columns.count → b < rows_of t → i < rows_of t → beats t e b i (target t m ∷ cs) ≡ false
-      → IsLexBelow (suc P.rank) (ratios P coord e (basic_at t i)) (ratios P coord e (basic_at t b)) → ⊥
+      → IsRowBelow e i b → ⊥
   not_beats_fact e b i le lb li h L =
       beats_not t e b i (target t m ∷ cs) h
       (subst (λ (n : ℕ). IsLexBelow n (quotients t e i (target t m ∷ cs)) (quotients t e b (target t m ∷ cs))) (sym ranks_length)
@@ -67,13 +71,13 @@ module _ (P : Program) (t : Table) (m : ℕ) (cs : List ℕ) (B : ℕ → Bool) 
   -- a candidate that the best doesn't lose to
   stays_best : (e b i : ℕ) → e < P.columns.count → b < rows_of t → i < rows_of t → b ≢ i → is_candidate t m e b ≡ true → is_candidate t m e i ≡ true
       → beats t e b i (target t m ∷ cs) ≡ false
-      → IsLexBelow (suc P.rank) (ratios P coord e (basic_at t b)) (ratios P coord e (basic_at t i))
+      → IsRowBelow e b i
   stays_best e b i le lb li ne cb ci h = by (lex_cases (suc P.rank) (ratios P coord e (basic_at t b)) (ratios P coord e (basic_at t i)))
     where
-      by : (IsLexBelow (suc P.rank) (ratios P coord e (basic_at t b)) (ratios P coord e (basic_at t i)))
+      by : (IsRowBelow e b i)
           ⊎ (((k : ℕ) → k < suc P.rank → ratios P coord e (basic_at t b) k ≡ ratios P coord e (basic_at t i) k)
-          ⊎ (IsLexBelow (suc P.rank) (ratios P coord e (basic_at t i)) (ratios P coord e (basic_at t b))))
-          → IsLexBelow (suc P.rank) (ratios P coord e (basic_at t b)) (ratios P coord e (basic_at t i))
+          ⊎ (IsRowBelow e i b))
+          → IsRowBelow e b i
       by (inl w) = w
       by (inr (inl s)) =
           absurd (no_ties P B coord start R T.state e (basic_at t b) (basic_at t i) (candidate_fact P t m cs B coord T e b le lb cb)
@@ -95,29 +99,29 @@ module _ (P : Program) (t : Table) (m : ℕ) (cs : List ℕ) (B : ℕ → Bool) 
           record { row = S.row; before = let l = S.before in omega arith; candidate = S.candidate; least = λ k l d ne. each k d ne (here_or_before k i l) }
         where
           each : (k : ℕ) → is_candidate t m e k ≡ true → k ≢ b → ((k ≡ i) ⊎ (k < i))
-              → IsLexBelow (suc P.rank) (ratios P coord e (basic_at t b)) (ratios P coord e (basic_at t k))
+              → IsRowBelow e b k
           each k d ne (inl s) = absurd (let u : is_candidate t m e k ≡ false = ap (λ (k : ℕ). is_candidate t m e k) s ∙ c in cc)
           each k d ne (inr l) = S.least k l d ne
       by true c None S = record { row = li; before = omega arith; candidate = c; least = λ k l d ne. each k d ne (here_or_before k i l) }
         where
           each : (k : ℕ) → is_candidate t m e k ≡ true → k ≢ i → ((k ≡ i) ⊎ (k < i))
-              → IsLexBelow (suc P.rank) (ratios P coord e (basic_at t i)) (ratios P coord e (basic_at t k))
+              → IsRowBelow e i k
           each k d ne (inl s) = absurd (ne s)
           each k d ne (inr l) = absurd (let u = S k l in cc)
       by true c (Some b) S = choose (beats t e b i (target t m ∷ cs)) refl
         where
           new : beats t e b i (target t m ∷ cs) ≡ true → (k : ℕ) → is_candidate t m e k ≡ true → k ≢ i → ((k ≡ i) ⊎ (k < i)) → ((k ≡ b) ⊎ (k ≢ b))
-              → IsLexBelow (suc P.rank) (ratios P coord e (basic_at t i)) (ratios P coord e (basic_at t k))
+              → IsRowBelow e i k
           new w k d ne (inl s) t' = absurd (ne s)
           new w k d ne (inr l) (inl s) =
-              subst (λ (k : ℕ). IsLexBelow (suc P.rank) (ratios P coord e (basic_at t i)) (ratios P coord e (basic_at t k))) (sym s)
+              subst (λ (k : ℕ). IsRowBelow e i k) (sym s)
               (beats_fact e b i le S.row li w)
           new w k d ne (inr l) (inr n) = lex_transitive (suc P.rank) _ _ _ (beats_fact e b i le S.row li w) (S.least k l d n)
 
           kept : beats t e b i (target t m ∷ cs) ≡ false → (k : ℕ) → is_candidate t m e k ≡ true → k ≢ b → ((k ≡ i) ⊎ (k < i))
-              → IsLexBelow (suc P.rank) (ratios P coord e (basic_at t b)) (ratios P coord e (basic_at t k))
+              → IsRowBelow e b k
           kept w k d ne (inl s) =
-              subst (λ (k : ℕ). IsLexBelow (suc P.rank) (ratios P coord e (basic_at t b)) (ratios P coord e (basic_at t k))) (sym s)
+              subst (λ (k : ℕ). IsRowBelow e b k) (sym s)
               (stays_best e b i le S.row li (let l = S.before in λ s. absurd (omega arith)) S.candidate c w)
           kept w k d ne (inr l) = S.least k l d ne
 

@@ -66,13 +66,17 @@ lex_tail n f g e h = by h.place h.within h.before h.there
     by zero w b t = absurd (zero_not_positive (subst IsPositive (ap (λ x. g 0 +ℚ neg_ℚ x) e ∙ ring_ℚ (g 0 ∷ []) (v0 ⊕ neg v0) (num (pos 0)) refl) t))
     by (suc p) w b t = record { place = p; within = omega arith; before = λ k l. b (suc k) (omega arith); there = t }
 
+-- the order of the ratios of two rows at a column
+abbrev IsOrder : Table → ℕ → ℕ → ℕ → ℕ → Ordering → Type 0
+IsOrder t e b i c o = MatchOrdering o (ratio_at t e i c <ℚ ratio_at t e b c) (ratio_at t e i c ≡ ratio_at t e b c) (ratio_at t e b c <ℚ ratio_at t e i c)
+
 pub beats_is : (t : Table) (e b i : ℕ) (cs : List ℕ) → beats t e b i cs ≡ true → IsLexBelow (length cs) (quotients t e i cs) (quotients t e b cs)
 unfolding beats
 beats_is t e b i [] h = absurd cc
 beats_is t e b i (c ∷ cs) h =
     by (order_of (ratio_at t e i c) (ratio_at t e b c)) (order_of_ranks (ratio_at t e i c) (ratio_at t e b c) _ refl) h (beats_is t e b i cs)
   where
-    by : (o : Ordering) → MatchOrdering o (ratio_at t e i c <ℚ ratio_at t e b c) (ratio_at t e i c ≡ ratio_at t e b c) (ratio_at t e b c <ℚ ratio_at t e i c)
+    by : (o : Ordering) → IsOrder t e b i c o
         → elim o as (λ _. Bool) [ Less ↦ true | Equal ↦ beats t e b i cs | Greater ↦ false ] ≡ true
         → (beats t e b i cs ≡ true → IsLexBelow (length cs) (quotients t e i cs) (quotients t e b cs))
         → IsLexBelow (length (c ∷ cs)) (quotients t e i (c ∷ cs)) (quotients t e b (c ∷ cs))
@@ -87,7 +91,7 @@ beats_not t e b i [] h w = let l = w.within in omega arith
 beats_not t e b i (c ∷ cs) h w =
     by (order_of (ratio_at t e i c) (ratio_at t e b c)) (order_of_ranks (ratio_at t e i c) (ratio_at t e b c) _ refl) h (beats_not t e b i cs)
   where
-    by : (o : Ordering) → MatchOrdering o (ratio_at t e i c <ℚ ratio_at t e b c) (ratio_at t e i c ≡ ratio_at t e b c) (ratio_at t e b c <ℚ ratio_at t e i c)
+    by : (o : Ordering) → IsOrder t e b i c o
         → elim o as (λ _. Bool) [ Less ↦ true | Equal ↦ beats t e b i cs | Greater ↦ false ] ≡ false
         → (beats t e b i cs ≡ false → IsLexBelow (length cs) (quotients t e i cs) (quotients t e b cs) → ⊥) → ⊥
     by Less r h rec = absurd cc

@@ -5,13 +5,14 @@ use Rattle.exact_forms.specs.Coordinates.{IsShown}
 use Rattle.exact_linear.specs.Tables.{Table, IsRectangle, rows_of, table_entry, basic_at}
 use Rattle.exact_lp.specs.Rule.{target, top}
 use Rattle.exact_lp.specs.Program.{Program, IsState}
+use Rattle.exact_lp.proofs.Meaning.{HasWidth}
 
 -- A table that shows a state of the linear program.
 pub record IsTableau (P : Program) (t : Table) (m : ℕ) (cs : List ℕ) (B : ℕ → Bool) (coord : ℕ → ℕ → Rational) : Type 0 where
   pub state : IsState P B coord
   pub shown : IsShown P.columns B coord (rows_of t) (table_entry t) (basic_at t)
   pub rectangle : IsRectangle t
-  pub wide : rows_of t + m + 2 ≡ t.width
+  pub wide : HasWidth t m
   pub count : P.columns.count ≡ t.width
   pub row : 1 ≤ rows_of t
   pub low : P.low ≡ rows_of t

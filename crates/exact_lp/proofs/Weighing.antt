@@ -48,28 +48,30 @@ zeros_start t m xs e = gather_start (is_basic_vector t) 0 m xs e
 pub weight_tagged : (v : ℕ) (ops : List IntOp) (x : Rational) → tagged (Weight v) (answer is_owed ops x) ≡ answer place_is_owed (map (Weight v) ops) x
 weight_tagged v ops x = answer_tagged is_owed place_is_owed (Weight v) ops x (λ o. refl)
 
+-- the operations and the coefficient, of a column that is raised or isn't
+abbrev ops_raised : Table → ℕ → ℕ → Bool → List PlaceOp
+ops_raised t m v b = if b then map (Weight v) (add_ops (at_target t m (rows_of t + v)) (at_target t m (top t m))) else []
+
+abbrev value_raised : Table → ℕ → ℕ → Bool → Rational
+value_raised t m v b = if b then at_target t m (rows_of t + v) +ℚ at_target t m (top t m) else at_target t m (rows_of t + v)
+
+abbrev pub raise_ops : Table → ℕ → List ℕ → ℕ → List PlaceOp
+raise_ops t m cs v = ops_raised t m v (is_raised t m cs v)
+
+answer_raised : (t : Table) (m : ℕ) (cs : List ℕ) (v : ℕ) (b : Bool) → is_raised t m cs v ≡ b
+    → answer place_is_owed (raise_ops t m cs v) (coefficient t m cs v) ≡ answer place_is_owed (ops_raised t m v b) (value_raised t m v b)
+unfolding coefficient
+answer_raised t m cs v b h = ap (λ (b : Bool). answer place_is_owed (ops_raised t m v b) (value_raised t m v b)) h
+
 pub raised_answer : (t : Table) (m : ℕ) (cs : List ℕ) (v : ℕ) → is_raised t m cs v ≡ true
     → answer place_is_owed (map (Weight v) (add_ops (at_target t m (rows_of t + v)) (at_target t m (top t m))))
     (at_target t m (rows_of t + v) +ℚ at_target t m (top t m))
-    ≡ answer place_is_owed (if is_raised t m cs v then map (Weight v) (add_ops (at_target t m (rows_of t + v)) (at_target t m (top t m))) else [])
-    (coefficient t m cs v)
-unfolding coefficient
-raised_answer t m cs v h =
-    sym (ap (λ (b : Bool). answer place_is_owed (if b then map (Weight v) (add_ops (at_target t m (rows_of t + v)) (at_target t m (top t m))) else [])
-    (if b then at_target t m (rows_of t + v) +ℚ at_target t m (top t m) else at_target t m (rows_of t + v))) h)
+    ≡ answer place_is_owed (raise_ops t m cs v) (coefficient t m cs v)
+raised_answer t m cs v h = sym (answer_raised t m cs v true h)
 
 pub plain_answer : (t : Table) (m : ℕ) (cs : List ℕ) (v : ℕ) → is_raised t m cs v ≡ false
-    → Ok (at_target t m (rows_of t + v))
-    ≡ answer place_is_owed (if is_raised t m cs v then map (Weight v) (add_ops (at_target t m (rows_of t + v)) (at_target t m (top t m))) else [])
-    (coefficient t m cs v)
-unfolding coefficient
-plain_answer t m cs v h =
-    sym (ap (λ (b : Bool). answer place_is_owed (if b then map (Weight v) (add_ops (at_target t m (rows_of t + v)) (at_target t m (top t m))) else [])
-    (if b then at_target t m (rows_of t + v) +ℚ at_target t m (top t m) else at_target t m (rows_of t + v))) h
-    ∙ answer_nothing place_is_owed (at_target t m (rows_of t + v)))
-
-abbrev pub raise_ops : Table → ℕ → List ℕ → ℕ → List PlaceOp
-raise_ops t m cs v = if is_raised t m cs v then map (Weight v) (add_ops (at_target t m (rows_of t + v)) (at_target t m (top t m))) else []
+    → Ok (at_target t m (rows_of t + v)) ≡ answer place_is_owed (raise_ops t m cs v) (coefficient t m cs v)
+plain_answer t m cs v h = sym (answer_raised t m cs v false h ∙ answer_nothing place_is_owed (at_target t m (rows_of t + v)))
 
 pub weight_refused : (t : Table) (m : ℕ) (cs : List ℕ) (d : Rational) (v : ℕ) (err : PlaceOp)
     → answer place_is_owed (raise_ops t m cs v) (coefficient t m cs v) ≡ Err err
@@ -129,17 +131,13 @@ weigh_done t m cs d found v S e = (
   S.made ∙ ap (λ (v : ℕ). weights t m cs d v) e,
 )
 
-pub raised_yes : (t : Table) (m : ℕ) (cs : List ℕ) (v a b : ℕ) → a ≡ top t m → b ≡ rows_of t + v → is_basic t a ≡ true → contains cs b ≡ true
-    → is_raised t m cs v ≡ true
-raised_yes t m cs v a b e f h k = ap₂ (λ (x : Bool) (y : Bool). x && y) (ap (λ (a : ℕ). is_basic t a) (sym e) ∙ h) (ap (λ (b : ℕ). contains cs b) (sym f) ∙ k)
+pub raised_as : (t : Table) (m : ℕ) (cs : List ℕ) (v a b : ℕ) (is : Bool) → a ≡ top t m → b ≡ rows_of t + v → is_basic t a ≡ true → contains cs b ≡ is
+    → is_raised t m cs v ≡ is
+raised_as t m cs v a b is e f h k =
+    ap₂ (λ (x : Bool) (y : Bool). x && y) (ap (λ (a : ℕ). is_basic t a) (sym e) ∙ h) (ap (λ (b : ℕ). contains cs b) (sym f) ∙ k)
 
 pub raised_not_basic : (t : Table) (m : ℕ) (cs : List ℕ) (v a : ℕ) → a ≡ top t m → is_basic t a ≡ false → is_raised t m cs v ≡ false
 raised_not_basic t m cs v a e h = ap (λ (x : Bool). x && contains cs (rows_of t + v)) (ap (λ (a : ℕ). is_basic t a) (sym e) ∙ h)
-
-pub raised_not_first : (t : Table) (m : ℕ) (cs : List ℕ) (v a b : ℕ) → a ≡ top t m → b ≡ rows_of t + v → is_basic t a ≡ true → contains cs b ≡ false
-    → is_raised t m cs v ≡ false
-raised_not_first t m cs v a b e f h k =
-    ap₂ (λ (x : Bool) (y : Bool). x && y) (ap (λ (a : ℕ). is_basic t a) (sym e) ∙ h) (ap (λ (b : ℕ). contains cs b) (sym f) ∙ k)
 
 pub target_at : (t : Table) (m a b : ℕ) (x : Rational) → x ≡ at_target t m a → a ≡ b → x ≡ at_target t m b
 target_at t m a b x e f = e ∙ ap (λ (k : ℕ). at_target t m k) f

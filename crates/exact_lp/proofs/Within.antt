@@ -5,11 +5,8 @@ use Rattle.exact_forms.specs.Rational.{Rational}
 use Rattle.exact_lp.specs.Program.{Program, order, IsProgram}
 
 module _ (P : Program) (start : ℕ → ℕ → Rational) (R : IsProgram P start) where
-  pub column_of_vector : (k : ℕ) → k < P.high → k < P.columns.count
-  column_of_vector k l = let a = R.vectors in omega arith
-
   pub first_within : (j : ℕ) → j < P.rank → P.first j < P.columns.count
-  first_within j l = column_of_vector (P.first j) (R.first_is_vector j l).1
+  first_within j l = let a = R.vectors in let b = (R.first_is_vector j l).1 in omega arith
 
   pub order_within : (j : ℕ) → j < suc P.rank → order P j < P.columns.count
   unfolding order

@@ -1,8 +1,7 @@
 -- Clearing, coefficient by coefficient.
 use Rattle.std.specs.Prelude.{◌≡◌, ℕ, zero, suc, ◌+◌, ◌-◌, ◌/◌, ◌<◌, ◌≤◌, ◌^◌, Bool, true, false, if◌then◌else◌, ℤ, pos, nat_abs, ◌*ℤ◌, ◌≤ℤ◌, List, [], ◌∷◌}
 use Rattle.std.specs.Prelude.{◌++◌, length, take, drop, get_or, set, Result, Ok, Err}
-use Rattle.std.proofs.Common.{arith, refl, sym, ◌∙◌, ap, subst, drop_of_length-le, append_assoc, take_all, append-nil}
-use Rattle.std.proofs.lemmas.List.{take_more_set}
+use Rattle.std.proofs.Common.{arith, refl, sym, ◌∙◌, ap, subst, drop_of_length-le, take_all, append-nil}
 use Rattle.commutative_ring.specs.Gcd.{gcd_of}
 use Rattle.commutative_ring.proofs.Lowest.{gcd_positive, part_above}
 use Rattle.commutative_ring.proofs.SmallCases.{at_least_of_test, at_least_one, pos_abs, positive_abs, positive_product}
@@ -13,6 +12,7 @@ use Rattle.symmetric_matrix.specs.Owed.{answer}
 use Rattle.symmetric_matrix.specs.Operations.{is_owed, mul_op}
 use Rattle.symmetric_matrix.specs.Symmetric.{FitsInt}
 use Rattle.symmetric_matrix.proofs.Owed.{answer-append_err, answer-append_ok}
+use Rattle.exact_linear.proofs.Rows.{joined}
 use Rattle.extreme_ray.specs.declared.clearing.Coefficient.{Coefficient}
 use Rattle.extreme_ray.specs.Clearing.{factor, lifted, lift_ops, denominator_over, ray_denominator_ops, over_denominator, numerator, one_numerator_ops}
 use Rattle.extreme_ray.specs.Clearing.{numerators, ray_numerator_ops}
@@ -104,9 +104,6 @@ unfolding one_numerator_ops numerator
 numerator_once e c z d h = rw d (sym (h))
 
 -- ---- the numerators, from one on
-joined : (into : List ℤ) (j : ℕ) (z : ℤ) (rest : List ℤ) → j < length into → take j into ++ z ∷ rest ≡ take (j + 1) (set into j z) ++ rest
-joined into j z rest l = sym (append_assoc (take j into) (z ∷ []) rest) ∙ ap (λ (t : List ℤ). t ++ rest) (sym (take_more_set into j z l))
-
 pub numerators_refused : (e k : ℕ) (c : Coefficient) (cs : List Coefficient) (err : IntOp) → k < length cs → c ≡ get_or cs k c
     → answer is_owed (one_numerator_ops e c) (numerator e c) ≡ Err err
     → answer is_owed (ray_numerator_ops e (drop k cs)) (tt {0}) ≡ Err err

@@ -3,7 +3,7 @@ use Rattle.std.specs.Prelude.{◌≡◌, ◌≢◌, ℕ, zero, suc, ◌+◌, ◌
 use Rattle.std.proofs.Common.{arith, sym, ◌∙◌, ap, subst, refl, inl, inr, length-append, get_or-append-add}
 use Rattle.std.proofs.Math.ListN.{get_or-append}
 use Rattle.std.proofs.lemmas.List.{get_or-map, length-map}
-use Rattle.commutative_ring.proofs.SmallCases.{apart_ways, same_of_test, test_of_same}
+use Rattle.commutative_ring.proofs.SmallCases.{names_apart as all_apart, same_of_test, test_of_same}
 use Rattle.exact_forms.specs.Rational.{whole}
 use Rattle.exact_forms.specs.RankOne.{AreCoordinates, AreIndependent}
 use Rattle.exact_forms.specs.Vectors.{coordinate}
@@ -82,11 +82,8 @@ module _ (n : ℕ) (vectors : List (List ℕ)) (zeros : List ℕ) (l : ℕ) (B :
   name_within i h = let b = (places_pass (contains (l ∷ zeros)) 0 (length vectors) i h).below in omega arith
 
   pub names_apart : (i j : ℕ) → i < length names → j < length names → i ≢ j → name_at names i ≢ name_at names j
-  names_apart i j li lj n e = by (apart_ways i j n)
-    where
-      by : ((i < j) ⊎ (j < i)) → ⊥
-      by (inl h) = let a = places_increase (contains (l ∷ zeros)) 0 (length vectors) i j h lj in omega arith
-      by (inr h) = let a = places_increase (contains (l ∷ zeros)) 0 (length vectors) j i h li in omega arith
+  names_apart =
+      all_apart (name_at names) (length names) (λ i j h lj e. let a = places_increase (contains (l ∷ zeros)) 0 (length vectors) i j h lj in omega arith)
 
   listed : (i : ℕ) → i < length names → IsNameFound given (name_at names i) (position given (name_at names i))
   listed i h = let c = contained (l ∷ zeros) (name_at names i) (places_pass (contains (l ∷ zeros)) 0 (length vectors) i h).passes in by c.0 c.1 c.2

@@ -38,7 +38,10 @@ impl Model for Fraction {
 
     ghost inverse = { λ r. record { num = r.num; den = pos r.den } };
 
-    ghost inverse_ok = { λ f h. λ i. record { num = (lowest_parts f.num f.den h).0 i; den = (lowest_parts f.num f.den h).1 i } };
+    ghost inverse_ok = { λ f h. λ i. record {
+      num = (lowest_parts f.num f.den h).0 i;
+      den = (lowest_parts f.num f.den h).1 i;
+    } };
 }
 
 impl Fraction {

@@ -296,11 +296,13 @@ next_column : (p : Place) → p.column ≤ p.row → (next_place p).column ≤ (
 next_column p h =
     elim (cases_eq p.column p.row) [ inl same ↦ rw (eq-eqb p.column p.row same) (omega arith) | inr differ ↦ rw (ne_eqb p.column p.row differ) (omega arith) ]
 
-pub row_after : (p next : Place) (k : ℕ) → next ≡ next_place p → p.row ≤ k + 1 → next.row ≤ k + 1 + 1
-row_after p next k e h = rw e (next_row p k h)
+-- a place within the triangle, after k entries
+pub record IsWithin (p : Place) (k : ℕ) : Type 0 where
+  pub row : p.row ≤ k + 1
+  pub column : p.column ≤ p.row
 
-pub column_after : (p next : Place) → next ≡ next_place p → p.column ≤ p.row → next.column ≤ next.row
-column_after p next e h = rw e (next_column p h)
+pub within_after : (p next : Place) (k : ℕ) → next ≡ next_place p → IsWithin p k → IsWithin next (k + 1)
+within_after p next k e w = record { row = rw e (next_row p k w.row); column = rw e (next_column p w.column) }
 
 pub product_narrow : (x y z : ℤ) → is_owed (mul_op x y) ≡ false → z ≡ x *ℤ y → FitsInt z
 product_narrow x y z h e = rw e (ltb-false (2 ^ 127 - 1) (nat_abs (x *ℤ y)) h)

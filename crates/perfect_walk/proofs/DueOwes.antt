@@ -19,14 +19,14 @@ use Rattle.perfect_walk.specs.Theorems.{FirstDueIsOwed}
 use Rattle.perfect_walk.proofs.Owes.{nothing, owes_then, owes_first}
 use Rattle.perfect_walk.proofs.Placings.{in_own, in_refused}
 
--- in the first list, or in the second where the first owes nothing
-split : (xs ys : List Owed) (o : Owed) → first_owed_of (xs ++ ys) ≡ Some o → (first_owed_of xs ≡ Some o)
-    ⊎ ((first_owed_of xs ≡ None) × (first_owed_of ys ≡ Some o))
-split xs ys o h = by (first_owed_of xs) refl
+-- what is owed of two lists is owed in the first, or in the second where the first owes nothing
+split : {A : Type 0} (xs ys : List Owed) (o : Owed) → first_owed_of (xs ++ ys) ≡ Some o → (first_owed_of xs ≡ Some o → A)
+    → (first_owed_of xs ≡ None → first_owed_of ys ≡ Some o → A) → A
+split {A} xs ys o h here behind = by (first_owed_of xs) refl
   where
-    by : (p : Option Owed) → first_owed_of xs ≡ p → (first_owed_of xs ≡ Some o) ⊎ ((first_owed_of xs ≡ None) × (first_owed_of ys ≡ Some o))
-    by None e = inr (e, sym (owes_then xs ys (first_owed_of ys) e refl) ∙ h)
-    by (Some p) e = inl (e ∙ sym (owes_first xs ys p e) ∙ h)
+    by : (p : Option Owed) → first_owed_of xs ≡ p → A
+    by None e = behind e (sym (owes_then xs ys (first_owed_of ys) e refl) ∙ h)
+    by (Some p) e = here (e ∙ sym (owes_first xs ys p e) ∙ h)
 
 module _ (T : Task) (limit : ℕ) (σ : WalkState) (count : ℕ) where
   abbrev IsEnding : Owed → Type 0
@@ -50,22 +50,16 @@ module _ (T : Task) (limit : ℕ) (σ : WalkState) (count : ℕ) where
   placing : (o : Owed) → IsPlacing T σ → first_owed_of (leg_at T σ) ≡ Some o
       → (nat_eq count limit ≡ true → IsStepDue (program_at T σ) (length σ.exchanges)
       → first_owed_of (map of_place (opening_ops (program_at T σ) (length σ.exchanges))) ≡ Some o) → IsEnding o
-  placing o p h r = by (split (meeting_ops T σ) _ o h)
-    where
-      by : ((first_owed_of (meeting_ops T σ) ≡ Some o) ⊎ ((first_owed_of (meeting_ops T σ) ≡ None) × (first_owed_of (map of_place legs) ≡ Some o))) → IsEnding o
-      by (inl k) = meeting o p.tightens k
-      by (inr k) = at_stage Placing o p k.0 (in_own T σ (nat_eq count limit) o r k.1)
+  placing o p h r =
+      split (meeting_ops T σ) (map of_place legs) o h (meeting o p.tightens) (λ first k. at_stage Placing o p first (in_own T σ (nat_eq count limit) o r k))
 
   no_step : IsOutsideNow T σ → IsStepDue (program_at T σ) (length σ.exchanges) → ⊥
   no_step h due = let a = due.vector in let b = ap is_there h.none in cc
 
   raying : (o : Owed) → IsAtRay T σ → first_owed_of (rayed_ops T σ) ≡ Some o → IsEnding o
-  raying o A h = by (split (leg_at T σ) _ o h)
-    where
-      by : ((first_owed_of (leg_at T σ) ≡ Some o)
-          ⊎ ((first_owed_of (leg_at T σ) ≡ None) × (first_owed_of (stage_own T σ (nat_eq count limit) Raying) ≡ Some o))) → IsEnding o
-      by (inl k) = placing o A.placing k (λ c due. absurd (no_step A.outside due))
-      by (inr k) = at_stage Raying o (A.placing, A.outside) k.0 k.1
+  raying o A h =
+      split (leg_at T σ) (stage_own T σ (nat_eq count limit) Raying) o h
+      (λ k. placing o A.placing k (λ c due. absurd (no_step A.outside due))) (at_stage Raying o (A.placing, A.outside))
 
   searching : (o : Owed) (a : SearchAnswer) → IsSearchAt T σ a → first_owed_of (search_ops T σ) ≡ Some o → IsEnding o
   searching o a s h = by (last_tighten σ.tightens) refl h
@@ -76,36 +70,25 @@ module _ (T : Task) (limit : ℕ) (σ : WalkState) (count : ℕ) where
       by (Some t) e k = absurd (let n : None ≡ Some o = sym nothing ∙ k in cc)
 
   pairing : (o : Owed) → IsSearchAt T σ Copositive → first_owed_of (pairing_ops T σ) ≡ Some o → IsEnding o
-  pairing o s h = by (split (search_ops T σ) _ o h)
-    where
-      by : ((first_owed_of (search_ops T σ) ≡ Some o)
-          ⊎ ((first_owed_of (search_ops T σ) ≡ None) × (first_owed_of (stage_own T σ (nat_eq count limit) Pairing) ≡ Some o))) → IsEnding o
-      by (inl k) = searching o Copositive s k
-      by (inr k) = at_stage Pairing o s k.0 k.1
+  pairing o s h =
+      split (search_ops T σ) (stage_own T σ (nat_eq count limit) Pairing) o h (searching o Copositive s) (at_stage Pairing o s)
 
   -- ---- by what comes next
   by_next : (b : Bool) → nat_eq count limit ≡ b → (next : Next) (o : Owed) → ComesNext T σ next → first_owed_of (due_ops T σ b next) ≡ Some o → IsEnding o
   by_next true e ByMatrix o h k = meeting o h.0.tightens k
   by_next false e ByMatrix o h k = meeting o h.0.tightens k
-  by_next true e (Exchanged x) o h k = by (split (meeting_ops T σ) _ o k)
-    where
-      by : ((first_owed_of (meeting_ops T σ) ≡ Some o)
-          ⊎ ((first_owed_of (meeting_ops T σ) ≡ None) × (first_owed_of (map of_place (opening_ops (program_at T σ) (length σ.exchanges))) ≡ Some o)))
-          → IsEnding o
-      by (inl k) = meeting o h.0.tightens k
-      by (inr k) = at_stage Placing o h.0 k.0 (subst (λ (b : Bool). first_owed_of (stage_own T σ b Placing) ≡ Some o) (sym e) (in_refused T σ o h.1.due k.1))
+  by_next true e (Exchanged x) o h k =
+      split (meeting_ops T σ) (map of_place (opening_ops (program_at T σ) (length σ.exchanges))) o k (meeting o h.0.tightens) (λ first k.
+      at_stage Placing o h.0 first (subst (λ (b : Bool). first_owed_of (stage_own T σ b Placing) ≡ Some o) (sym e) (in_refused T σ o h.1.due k)))
   by_next false e (Exchanged x) o h k = placing o h.0 k (λ c. absurd cc)
   by_next true e (Factored f) o h k = placing o h.0 k (λ c due. absurd (let a = due.not_last in let b = h.1.last in cc))
   by_next false e (Factored f) o h k = placing o h.0 k (λ c due. absurd (let a = due.not_last in let b = h.1.last in cc))
   by_next true e ByRay o h k = pairing o h k
   by_next false e ByRay o h k = pairing o h k
   by_next true e (Tightened t) o h k = searching o h.0.answer h.0.is_answer k
-  by_next false e (Tightened t) o h k = by (split (search_ops T σ) _ o k)
-    where
-      by : ((first_owed_of (search_ops T σ) ≡ Some o)
-          ⊎ ((first_owed_of (search_ops T σ) ≡ None) × (first_owed_of (stage_own T σ (nat_eq count limit) (Tightening t.vector)) ≡ Some o))) → IsEnding o
-      by (inl k) = searching o h.0.answer h.0.is_answer k
-      by (inr k) = at_stage (Tightening t.vector) o (h.0, e) k.0 k.1
+  by_next false e (Tightened t) o h k =
+      split (search_ops T σ) (stage_own T σ (nat_eq count limit) (Tightening t.vector)) o k (searching o h.0.answer h.0.is_answer)
+      (at_stage (Tightening t.vector) o (h.0, e))
   by_next true e (Moved v) o h k = searching o (Found v.mu v.vectors) h.search k
   by_next false e (Moved v) o h k = searching o (Found v.mu v.vectors) h.search k
   by_next true e (Undecided path) o h k = searching o (Depth path) h k

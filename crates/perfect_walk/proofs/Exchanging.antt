@@ -17,6 +17,7 @@ use Rattle.exact_lp.specs.Placement.{Problem, place_is_owed, first_owed_in, firs
 use Rattle.exact_lp.specs.Placement.{leg_ops, legs, IsRun as IsPlaceRun, IsPlaceAnswer, IsRefusedAfter, problem_of}
 use Rattle.exact_lp.specs.Simplex.{IsSimplexOf}
 use Rattle.exact_lp.specs.Ruled.{IsRuled}
+use Rattle.exact_lp.specs.OfVectors.{IsPlaceable}
 use Rattle.exact_lp.proofs.Ruled.{simplex_steps}
 use Rattle.exact_lp.proofs.Runs.{length-steps_of}
 use Rattle.perfect_walk.specs.declared.journal.Visit.{Visit}
@@ -114,7 +115,7 @@ module _ (T : Task) (v : Visit) (searched : Option Symmetric) where
             due = here.0;
             step_is = here.1;
             rule = subst (λ (es : List Exchange). IsSimplexOf v.vectors T.s es) (steps_more p k)
-                (simplex_steps v.vectors T.s T.d some sizes perfect (suc k) (λ j l. due j (omega arith)));
+                (simplex_steps v.vectors T.s T.d (record { some = some; sizes = sizes; perfect = perfect }) (suc k) (λ j l. due j (omega arith)));
           }
 
       pub exchanges_run : (k : ℕ) → ((j : ℕ) → j < k → IsStepDue p j) → first_owed_in (legs p k) ≡ None

@@ -7,6 +7,7 @@ use Rattle.unimodular_cone.specs.declared.WideAt.{WideAt}
 use Rattle.unimodular_cone.specs.Answer.{SearchAnswer, BoundWide, Wide, Low, Depth, Copositive, Found}
 use Rattle.exact_lp.specs.declared.placed.Exchange.{Exchange}
 use Rattle.contiguous.specs.declared.neighbour.Tighten.{Tighten}
+use Rattle.contiguous.proofs.Candidates.{vector_is}
 use Rattle.contiguous.specs.Tightenings.{tighten_of, first_vector, CallsFor, Line, last_tighten}
 use Rattle.perfect_walk.specs.declared.journal.Owed.{Owed}
 use Rattle.perfect_walk.specs.declared.journal.Visit.{Visit}
@@ -25,10 +26,6 @@ use Rattle.perfect_walk.proofs.Tightening.{last_none}
 
 pub clash : (ops : List Owed) (o : Owed) → first_owed_of ops ≡ None → first_owed_of ops ≡ Some o → ⊥
 clash ops o h k = let e : None ≡ Some o = sym h ∙ k in cc
-
-pub vector_of : (l : Line) (w : List ℕ) → (tighten_of l w).vector ≡ w
-unfolding tighten_of
-vector_of l w = refl
 
 module _ (T : Task) (σ : WalkState) where
   -- the ray's operations come before its search
@@ -144,7 +141,7 @@ module _ (T : Task) (σ : WalkState) where
   tightened : (b : Bool) (o : Owed) (w : List ℕ) → first_owed_of (search_ops T σ) ≡ None → first_owed_of (stage_own T σ b (Tightening w)) ≡ Some o → b ≡ false
       → first_owed_of (due_ops T σ b (Tightened (tighten_of (line_at T σ) w))) ≡ Some o
   tightened true o w n h r = absurd cc
-  tightened false o w n h r = subst (λ (w : List ℕ). first_owed_of (tightening_ops T σ w) ≡ Some o) (sym (vector_of (line_at T σ) w))
+  tightened false o w n h r = subst (λ (w : List ℕ). first_owed_of (tightening_ops T σ w) ≡ Some o) (sym (vector_is (line_at T σ) w))
       (owes_then (search_ops T σ) _ (Some o) n h)
 
   by_search : (b : Bool) (stage : Stage) (o : Owed) (a : SearchAnswer) (next : Next) → IsOwing T σ b stage o → IsSearchAt T σ a → BySearch T σ a next

@@ -26,15 +26,18 @@ after_next s v old new steps x e left (inr h) = ended_next s v end.OutOfMemory l
 
 module _ (s : Symmetric) (v : Visit) (ray : Symmetric) (mu : ℤ) (same : mu ≡ v.mu) (H : IsHeld s.size v) (E : IsExtremeRay s.size (entry ray) v.vectors)
     (L : inner s.size (entry ray) (entry s) <ℤ pos 0) where
+  -- at the size n, the inner product falls
+  abbrev IsLessAt : Symmetric → ℤ → ℕ → Type 0
+  IsLessAt c level n =
+      IsExtremeRay n (entry ray) v.vectors → inner n (entry ray) (entry s) <ℤ pos 0 → IsMinimum n (entry v.matrix) v.mu v.vectors
+      → (v.mu *ℤ inner n (entry c) (entry s)) <ℤ (level *ℤ inner n (entry v.matrix) (entry s))
+
   found_less : (c : Symmetric) (level : ℤ) (found : List (List ℕ)) (ts : List Tighten) → IsNeighbour (line_along v.matrix mu ray) v.vectors c level found ts
       → (v.mu *ℤ inner s.size (entry c) (entry s)) <ℤ (level *ℤ inner s.size (entry v.matrix) (entry s))
   found_less c level found ts N = by s.size H.size E L H.minimum
     where
-      by : (n : ℕ) → v.matrix.size ≡ n → IsExtremeRay n (entry ray) v.vectors → inner n (entry ray) (entry s) <ℤ pos 0
-          → IsMinimum n (entry v.matrix) v.mu v.vectors
-          → (v.mu *ℤ inner n (entry c) (entry s)) <ℤ (level *ℤ inner n (entry v.matrix) (entry s))
-      by n e = subst (λ (n : ℕ). IsExtremeRay n (entry ray) v.vectors → inner n (entry ray) (entry s) <ℤ pos 0 → IsMinimum n (entry v.matrix) v.mu v.vectors
-          → (v.mu *ℤ inner n (entry c) (entry s)) <ℤ (level *ℤ inner n (entry v.matrix) (entry s))) e (λ E L M.
+      by : (n : ℕ) → v.matrix.size ≡ n → IsLessAt c level n
+      by n e = subst (λ (n : ℕ). IsLessAt c level n) e (λ E L M.
           subst (λ (m : ℤ). (m *ℤ inner v.matrix.size (entry c) (entry s)) <ℤ (level *ℤ inner v.matrix.size (entry v.matrix) (entry s))) same
           (value_falls v.matrix.size (entry v.matrix) (entry ray) mu v.vectors
           (subst (λ (m : ℤ). IsMinimum v.matrix.size (entry v.matrix) m v.vectors) (sym same) M) E

@@ -1,6 +1,7 @@
 -- At each state the walk ends in one way.
 use Rattle.std.specs.Prelude.{◌≡◌, ◌⊎◌, ℕ, ℤ, Bool, true, false, List, Option, Some, None, nat_eq}
-use Rattle.std.proofs.Common.{arith, sym, ◌∙◌, ap, refl, subst, inl, inr}
+use Rattle.std.proofs.Common.{sym, ◌∙◌, ap, refl, subst, inl, inr}
+use Rattle.commutative_ring.proofs.SmallCases.{test_of_apart}
 use Rattle.unimodular_cone.specs.Answer.{SearchAnswer, BoundWide, Wide, Low, Depth, Copositive, Found}
 use Rattle.symmetric_matrix.specs.Symmetric.{Symmetric}
 use Rattle.contiguous.specs.Tightenings.{CallsFor}
@@ -16,16 +17,6 @@ use Rattle.perfect_walk.specs.Ends.{due_ops, walk_end_of, IsWalkEnd, IsEndByNext
 use Rattle.perfect_walk.specs.Ends.{searched_at}
 use Rattle.perfect_walk.proofs.OneNext.{View, view, one_next, one_answer}
 use Rattle.perfect_walk.proofs.FirstDue.{clash, met_leg, placed_leg, leg_rayed, ray_rayed, IsOwing, first_due}
-
-pub is_equal : (n m : ℕ) → nat_eq n m ≡ true → n ≡ m
-is_equal n m h = grind arith
-
-pub is_other : (n m : ℕ) → (n ≡ m → ⊥) → nat_eq n m ≡ false
-is_other n m h = by (nat_eq n m) refl
-  where
-    by : (b : Bool) → nat_eq n m ≡ b → b ≡ false
-    by true e = absurd (h (is_equal n m e))
-    by false e = refl
 
 module _ (T : Task) (σ : WalkState) where
   -- a call that owes is refused at its step, whatever comes next
@@ -116,5 +107,5 @@ module _ (T : Task) (σ : WalkState) where
         by (inr used) = more used
     not_ended x d y ρ (inr (inl (o, O, is))) S more = absurd
         (against (nat_eq count limit) O.stage o S.next (O.is_stage, O.owes, O.first) (view T σ S.next S.is_next)
-        (subst (λ (b : Bool). first_owed_of (due_ops T σ b S.next) ≡ None) (sym (is_other count limit more)) S.owes))
+        (subst (λ (b : Bool). first_owed_of (due_ops T σ b S.next) ≡ None) (sym (test_of_apart count limit more)) S.owes))
     not_ended x d y ρ (inr (inr M)) S more = M.memory

@@ -3,6 +3,7 @@ use Rattle.std.specs.Prelude.{◌≡◌, ◌⊎◌, ℕ, ◌+◌, ◌≤◌, ◌
 use Rattle.std.specs.Prelude.{slice_index_or}
 use Rattle.std.proofs.Common.{arith, sym, ◌∙◌, ap, ap₂, refl, subst, inl, inr, append_assoc, length-append, eq-eqb}
 use Rattle.std.proofs.lemmas.List.{length-map}
+use Rattle.commutative_ring.proofs.SmallCases.{same_of_test}
 use Rattle.exact_forms.specs.Rational.{Rational}
 use Rattle.exact_forms.specs.Copositive.{IsPerfect}
 use Rattle.symmetric_matrix.specs.Symmetric.{Symmetric}
@@ -34,7 +35,6 @@ use Rattle.perfect_walk.specs.Ends.{due_ops, IsWalkEnd, Placing, placing_ops}
 use Rattle.perfect_walk.specs.Parts.{IsPart, IsTurned, IsEndedAfter, IsFactoredBy, IsOutsideWith}
 use Rattle.perfect_walk.proofs.Runs.{run_append}
 use Rattle.perfect_walk.proofs.Owes.{owes_then, place_some}
-use Rattle.perfect_walk.proofs.OneEnd.{is_equal}
 use Rattle.perfect_walk.proofs.RayParts.{due_none}
 use Rattle.perfect_walk.proofs.TightenEnds.{part_memory}
 use Rattle.perfect_walk.proofs.Exchanging.{with_exchanges, meeting_none, is_placing, leg_at_none, opening_at_none, placed_run, placed_next}
@@ -65,8 +65,8 @@ module _ (T : Task) (v : Visit) (limit budget : ℕ) (old : Trail) (S : IsPlaceS
     where
       by : (x y : Bool) → nat_eq k b ≡ x → nat_eq m n ≡ y → x ≡ y
       by true true g h = refl
-      by true false g h = absurd (let i = is_equal k b g in let j = eq-eqb m n (omega arith) in cc)
-      by false true g h = absurd (let i = is_equal m n h in let j = eq-eqb k b (omega arith) in cc)
+      by true false g h = absurd (let i = same_of_test k b g in let j = eq-eqb m n (omega arith) in cc)
+      by false true g h = absurd (let i = same_of_test m n h in let j = eq-eqb k b (omega arith) in cc)
       by false false g h = refl
 
   within_is : (σ : WalkState) (budget : ℕ) (b : Bool) (o : PlaceOp) → nat_eq (length σ.exchanges) budget ≡ b

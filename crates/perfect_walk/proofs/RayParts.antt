@@ -47,6 +47,14 @@ pub due_none : (T : Task) (σ : WalkState) (next : Next) (b : Bool) → first_ow
 due_none T σ next true h k = h
 due_none T σ next false h k = k
 
+-- what a search is of, by the last Tighten
+abbrev pub searched_by : Task → WalkState → Option Tighten → Symmetric
+searched_by T σ o = elim o as (λ _. Symmetric) [ None ↦ ray_at T σ | Some t ↦ candidate (line_at T σ) t ]
+
+abbrev pub IsSearchBy : Task → WalkState → Option Tighten → ℕ → SearchAnswer → Type 0
+IsSearchBy T σ o depth a =
+    IsSearchAnswer (elim o as (λ _. Mode) [ None ↦ Mode.Sign | Some t ↦ Mode.Least ]) (searched_by T σ o).size (entry (searched_by T σ o)) depth a
+
 module _ (T : Task) (limits : Limits) (s : Symmetric) (d : ℤ) (σ : WalkState) (v : Visit) (old : Trail) (ray : Symmetric) (R : IsReadyAlong T limits s σ v old)
     (same_d : T.d ≡ d) (O : IsOnRay T σ ray) (within : length old.steps ≤ limits.pivots) where
   none : last_tighten σ.tightens ≡ None
@@ -55,16 +63,14 @@ module _ (T : Task) (limits : Limits) (s : Symmetric) (d : ℤ) (σ : WalkState)
   pub search_here : (a : SearchAnswer) → IsSearchAnswer Mode.Sign ray.size (entry ray) limits.depth a → IsSearchAt T σ a
   search_here a h = record {
     at_ray = λ n. O.at_ray;
-    answers = subst (λ (o : Option Tighten). IsSearchAnswer (elim o as (λ _. Mode) [ None ↦ Mode.Sign | Some t ↦ Mode.Least ])
-        (elim o as (λ _. Symmetric) [ None ↦ ray_at T σ | Some t ↦ candidate (line_at T σ) t ]).size
-        (entry (elim o as (λ _. Symmetric) [ None ↦ ray_at T σ | Some t ↦ candidate (line_at T σ) t ])) T.depth a) (sym none)
+    answers = subst (λ (o : Option Tighten). IsSearchBy T σ o T.depth a) (sym none)
         (subst (λ (n : ℕ). IsSearchAnswer Mode.Sign (ray_at T σ).size (entry (ray_at T σ)) n a) (sym R.depth)
         (subst (λ (r : Symmetric). IsSearchAnswer Mode.Sign r.size (entry r) limits.depth a) O.ray_is h));
   }
 
   target_here : Some ray ≡ Some (search_target_at T σ)
   target_here = ap (λ (r : Symmetric). Some r)
-      (O.ray_is ∙ sym (ap (λ (o : Option Tighten). elim o as (λ _. Symmetric) [ None ↦ ray_at T σ | Some t ↦ candidate (line_at T σ) t ]) none))
+      (O.ray_is ∙ sym (ap (λ (o : Option Tighten). searched_by T σ o) none))
 
   search_none : first_owed_of (search_ops T σ) ≡ None
   search_none = ap (λ (o : Option Tighten). first_owed_of (elim o as (λ _. List Owed) [ None ↦ rayed_ops T σ | Some t ↦ [] ])) none ∙ O.owes

@@ -3,6 +3,7 @@ use Rattle.std.specs.Prelude.{◌≡◌, ◌≢◌, ℕ, zero, suc, ◌+◌, ◌
 use Rattle.std.specs.Prelude.{if◌then◌else◌, nat_eq}
 use Rattle.std.proofs.Common.{arith, sym, ◌∙◌, ap, ap₂, refl, subst, inl, inr, length-append, eq-eqb}
 use Rattle.std.proofs.lemmas.List.{length-map}
+use Rattle.commutative_ring.proofs.SmallCases.{test_of_apart}
 use Rattle.symmetric_matrix.specs.Owed.{first_owed}
 use Rattle.symmetric_matrix.specs.Symmetric.{Symmetric, entry}
 use Rattle.unimodular_cone.specs.declared.Mode.{Mode}
@@ -33,7 +34,6 @@ use Rattle.perfect_walk.specs.Chains.{IsWalkRun, step_of, searched_with}
 use Rattle.perfect_walk.specs.Ends.{due_ops, walk_end_of, IsWalkEnd, IsEndByNext, IsOwedAt, Tightening}
 use Rattle.perfect_walk.specs.Parts.{IsPart, IsTurned, IsMoveDue, IsEndedAfter, IsTurnedTo, or_ray}
 use Rattle.perfect_walk.proofs.Owes.{owes_then, neighbour_some}
-use Rattle.perfect_walk.proofs.OneEnd.{is_other}
 use Rattle.perfect_walk.proofs.RayParts.{part_end, due_none}
 use Rattle.perfect_walk.proofs.Tightening.{along, l as line_of, search_after, level_after, target_after, called_after, search_none, tightens_run}
 
@@ -161,7 +161,7 @@ module _ (T : Task) (limit : ℕ) (v : Visit) (es : List Exchange) (x : Option S
         of_neighbour o,
         record {
           stage = Tightening O.vector;
-          is_stage = (called_at ts y O.vector O.due, is_other (length new.steps) limit (λ e. let c = count ts steps in let k = O.left in omega arith));
+          is_stage = (called_at ts y O.vector O.due, test_of_apart (length new.steps) limit (λ e. let c = count ts steps in let k = O.left in omega arith));
           owes = search_none T v es x w called rayed ts y;
           first = neighbour_some (tighten_ops l O.vector) o O.first;
           searched_is = searched ∙ ap (λ (c : Symmetric). Some c) (last_is ts y);

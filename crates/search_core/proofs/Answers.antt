@@ -16,11 +16,11 @@ use Rattle.unimodular_cone.specs.Answer.{IsListOf, IsOpenAnswer, BoundFits}
 use Rattle.search_core.specs.Fair.{Fate, Judged, bound_under, IsSplit, HasPath, IsFair, code, code_of, start_word, least_value, IsLowFate}
 use Rattle.search_core.proofs.PathFates.{IsClosedUnder}
 use Rattle.search_core.proofs.ShownFates.{judged_fate}
-use Rattle.unimodular_cone.proofs.Covers.{value_same, closed_attains, IsNonzeroBelow}
+use Rattle.unimodular_cone.proofs.Covers.{value_same, closed_attains}
 use Rattle.unimodular_cone.proofs.Bounded.{closed_or_not}
 use Rattle.unimodular_cone.proofs.Generators.{proper}
 use Rattle.search_core.proofs.LeastValues.{least_value_attained, start_is_large}
-use Rattle.unimodular_cone.proofs.Minimum.{nonneg_place}
+use Rattle.unimodular_cone.proofs.Minimum.{nonneg_place, nonzero_vector}
 use Rattle.unimodular_cone.proofs.Tree.{above_child, none_above_root, HasChildren, StopsAt, descend_from_root}
 use Rattle.search_core.proofs.Settle.{IsLimitFate, split_or_limit, split_can}
 use Rattle.search_core.proofs.Fairness.{NoLowBefore, NoOpenBefore, judged_in_tree, none_low, low_is_judged, limit_is_open, settles_low, settles_open}
@@ -191,14 +191,11 @@ module _ (n : ℕ) (q : Matrix) (d : ℕ) (judged : List Judged) (final : ℕ) (
         where
           by : ((j : Judged) × (k : ℕ) × Contains judged j × (k < n) × IsListOf n x (cone_at n q j.path k) ×
               (value n q (cone_at n q j.path) k ≡ bound_under Least final)) → Attains n q (bound_under Least final) x
-          by (j, k, cj, l, vector, e) =
-              let nz : IsNonzeroBelow n (cone_at n q j.path k) = (proper n q j.path).nonzero k l in
-              record {
-                size = vector.size;
-                nonzero = (nz.0, nz.1, λ z. nz.2 (sym (vector.same nz.0 nz.1) ∙ z));
-                value = value_same n q (coordinate x)
-                    (cone_at n q j.path k) vector.same ∙ e;
-              }
+          by (j, k, cj, l, vector, e) = record {
+            size = vector.size;
+            nonzero = nonzero_vector n x (cone_at n q j.path k) vector ((proper n q j.path).nonzero k l);
+            value = value_same n q (coordinate x) (cone_at n q j.path k) vector.same ∙ e;
+          }
 
       all : (x : List ℕ) → Attains n q (bound_under Least final) x → Contains vectors x
       all x a = by (attaining_is_judged x a)

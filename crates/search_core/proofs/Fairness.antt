@@ -1,5 +1,5 @@
 -- Fair lists: what is judged, the final word and bound, and the three settled answers.
-use Rattle.std.specs.Prelude.{◌≡◌, ◌≢◌, ℕ, zero, suc, ◌<◌, ◌≤◌, ◌⊎◌, List, [], ◌∷◌, ◌++◌, length}
+use Rattle.std.specs.Prelude.{◌≡◌, ◌≢◌, ℕ, suc, ◌<◌, ◌≤◌, ◌⊎◌, List, [], ◌∷◌, ◌++◌, length}
 use Rattle.std.proofs.Common.{arith, sym, ◌∙◌, ap, refl, inl, inr, subst, append_assoc}
 use Rattle.std.specs.List.{Contains}
 use Rattle.commutative_ring.proofs.SmallCases.{below_or_not}
@@ -32,6 +32,9 @@ module _ (m : Mode) (n : ℕ) (q : Matrix) (d : ℕ) (judged : List Judged) (fin
   pub judged_in_tree : (j : Judged) → Contains judged j → IsInTree n q d j.path
   judged_in_tree j c = due_in_tree m n q d final judged fair.judgements fair.no_other j.path (fair.no_other j c)
 
+  fate_of : (j : Judged) → Contains judged j → IsPathFate m n q d j.path (word_of j.path j.fate) j.fate
+  fate_of j c = judged_fate m n q d final j (fair.judgements j c)
+
   -- a path is judged where each judgement above it is a Split
   pub reached : (p : Path) → ((j : Judged) → Contains judged j → IsAbove j.path p → IsSplit j.fate) → HasPath judged p
   reached p splits = go p [] refl (fair.due [] (inl refl))
@@ -53,19 +56,15 @@ module _ (m : Mode) (n : ℕ) (q : Matrix) (d : ℕ) (judged : List Judged) (fin
   -- a low path of the tree that is no deeper than the final word is judged Low, and its depth is that word
   pub low_is_judged : (p : Path) → IsInTree n q d p → IsLow m n q (cone_at n q p) → length p ≤ final
       → (j : Judged) × Contains judged j × (j.path ≡ p) × IsLowFate j.fate × (length p ≡ final)
-  low_is_judged p t low short = by (reached p splits)
+  low_is_judged p t low short = by (reached p (λ j c above.
+      split_above_low m n q d final j.path p j.fate s (fate_of j c) (fair.judgements j c).above_final above t low short))
     where
-      splits : (j : Judged) → Contains judged j → IsAbove j.path p → IsSplit j.fate
-      splits j c above =
-          split_above_low m n q d final j.path p j.fate s (judged_fate m n q d final j (fair.judgements j c)) (fair.judgements j c).above_final above t low
-          short
-
       by : HasPath judged p → (j : Judged) × Contains judged j × (j.path ≡ p) × IsLowFate j.fate × (length p ≡ final)
       by (j, c, same) =
           let low_j : IsLow m n q (cone_at n q j.path) = subst (λ (w : Path). IsLow m n q (cone_at n q w)) (sym same) low in
           let short_j : length j.path ≤ final = subst (λ (w : Path). length w ≤ final) (sym same) short in
           let f : IsLowFate j.fate =
-          low_itself m n q d final j.path j.fate (judged_fate m n q d final j (fair.judgements j c)) (fair.judgements j c).above_final low_j short_j in
+          low_itself m n q d final j.path j.fate (fate_of j c) (fair.judgements j c).above_final low_j short_j in
           let e : word_of j.path j.fate ≡ length j.path = word_of_low j.path j.fate f in
           let a : final ≤ word_of j.path j.fate = (fair.judgements j c).above_final in
           let l : length j.path ≡ length p = ap length same in
@@ -81,7 +80,7 @@ module _ (m : Mode) (n : ℕ) (q : Matrix) (d : ℕ) (judged : List Judged) (fin
   settles_low j c which e depth first = (record { in_tree = judged_in_tree j c; low = (which, at_which.range, at_which.low); first = others }, at_which)
     where
       fate : IsPathFate m n q d j.path (word_of j.path (Fate.Low (suc which))) (Fate.Low (suc which))
-      fate = subst (λ (f : Fate). IsPathFate m n q d j.path (word_of j.path f) f) e (judged_fate m n q d final j (fair.judgements j c))
+      fate = subst (λ (f : Fate). IsPathFate m n q d j.path (word_of j.path f) f) e (fate_of j c)
 
       at_which : IsFirstLowAt m n q (cone_at n q j.path) which
       at_which = by fate.1
@@ -102,17 +101,13 @@ module _ (m : Mode) (n : ℕ) (q : Matrix) (d : ℕ) (judged : List Judged) (fin
   -- ---- where the final word stands for a bound
   pub open_is_judged : d ≤ 200 → 256 ≤ final → (p : Path) → IsOpen n q d (bound_under m final) p
       → (j : Judged) × Contains judged j × (j.path ≡ p) × IsLimitFate n q d j.path j.fate
-  open_is_judged small large p o = by (reached p splits)
+  open_is_judged small large p o = by (reached p (λ j c above.
+      split_above_open m n q d final j.path p j.fate small large (fate_of j c) (fair.judgements j c).above_final above o.in_tree (o.above j.path above)))
     where
-      splits : (j : Judged) → Contains judged j → IsAbove j.path p → IsSplit j.fate
-      splits j c above =
-          split_above_open m n q d final j.path p j.fate small large (judged_fate m n q d final j (fair.judgements j c)) (fair.judgements j c).above_final above
-          o.in_tree (o.above j.path above)
-
       no_split : (j : Judged) → Contains judged j → j.path ≡ p → ((length p ≡ d) ⊎ HasWideChild n q p) → IsSplit j.fate → ⊥
-      no_split j c same (inl e) sp = (split_can m n q d j.path j.fate (judged_fate m n q d final j (fair.judgements j c)) sp).1 (ap length same ∙ e)
+      no_split j c same (inl e) sp = (split_can m n q d j.path j.fate (fate_of j c) sp).1 (ap length same ∙ e)
       no_split j c same (inr (at_path, entry, wide)) sp =
-          split_not_wide n q j.path at_path entry (split_can m n q d j.path j.fate (judged_fate m n q d final j (fair.judgements j c)) sp).0
+          split_not_wide n q j.path at_path entry (split_can m n q d j.path j.fate (fate_of j c) sp).0
           (subst (λ (w : Path). IsFirstOverBelow n q w at_path entry) (sym same) wide)
 
       which : (j : Judged) → Contains judged j → j.path ≡ p → (IsSplit j.fate ⊎ IsLimitFate n q d j.path j.fate) → IsLimitFate n q d j.path j.fate
@@ -125,7 +120,7 @@ module _ (m : Mode) (n : ℕ) (q : Matrix) (d : ℕ) (judged : List Judged) (fin
         c,
         same,
         which j c same
-            (split_or_limit m n q d final j.path j.fate small large (judged_fate m n q d final j (fair.judgements j c)) (fair.judgements j c).above_final
+            (split_or_limit m n q d final j.path j.fate small large (fate_of j c) (fair.judgements j c).above_final
             (judged_in_tree j c).short (λ h. o.itself (subst (λ (w : Path). IsClosedUnder m n q w final) same h))),
       )
 

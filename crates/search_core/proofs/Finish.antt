@@ -7,11 +7,12 @@ use Rattle.unimodular_cone.specs.Cones.{Matrix}
 use Rattle.unimodular_cone.specs.declared.Mode.{Mode}
 use Rattle.search_core.specs.Fair.{Fate, Closed, Split, Low, Dropped, AtLimit, Wide, Judged, code, start_word, IsSplit, HasPath, IsDue, HasNoPath, IsOnceEach}
 use Rattle.search_core.specs.Fair.{IsFair}
-use Rattle.search_core.specs.Machine.{Hand, Empty, Offered, State, children_of, held, in_hands, paths, standing, below_splits, due, times, IsCoded, IsKept}
+use Rattle.search_core.specs.Machine.{Hand, State, children_of, held, in_hands, paths, standing, below_splits, due, times, IsCoded, IsKept}
 use Rattle.search_core.specs.Machine.{AreEmpty, IsStart, IsEnd}
+use Rattle.exact_forms.proofs.Lists.{nothing_in}
 use Rattle.exact_forms.proofs.Vectors.{contains_here, contains_there, contains_cons}
 use Rattle.search_core.proofs.Times.{times-append, times_cons, times_same, times_other, times_none, path_or_not, due_once}
-use Rattle.search_core.proofs.Kept.{times_standing}
+use Rattle.search_core.proofs.Kept.{times_standing, not_offered}
 
 empty_hands : (x : Path) (hands : List Hand) → AreEmpty hands → times x (in_hands hands) ≡ 0
 empty_hands x [] e = times_none x
@@ -19,9 +20,6 @@ empty_hands x (h ∷ hands) e =
     let a : times x (held h) ≡ 0 = ap (λ (w : Hand). times x (held w)) (e 0) ∙ times_none x in
     let b : times x (in_hands hands) ≡ 0 = empty_hands x hands (λ k. e (suc k)) in
     omega (arith, times-append x (held h) (in_hands hands))
-
-not_offered : {path : Path} {word : ℕ} {h : Hand} → h ≡ Empty → h ≡ Offered path word → ⊥
-not_offered e f = (cc)
 
 -- ---- the start
 pub start_is_kept : (m : Mode) (n : ℕ) (q : Matrix) (d : ℕ) (s : State) → IsStart m n q s → IsKept m n q d s
@@ -31,7 +29,7 @@ start_is_kept m n q d s start = record {
   below_codes = λ p c. absurd (none p c);
   attained = inl start.word;
   noted = λ k p w l e. absurd (not_offered (start.hands k) e);
-  judgements = λ j c. absurd (no_judgement j (subst (λ (w : List Judged). Contains w j) start.judged c));
+  judgements = λ j c. absurd (nothing_in j (subst (λ (w : List Judged). Contains w j) start.judged c));
 }
   where
     standing_is : (x : Path) → times x (standing s) ≡ times x ([] ∷ [])
@@ -41,11 +39,8 @@ start_is_kept m n q d s start = record {
         let c : times x (paths s.judged) ≡ 0 = ap (λ (w : List Judged). times x (paths w)) start.judged ∙ times_none x in
         omega (arith, times_standing x s)
 
-    no_judgement : (j : Judged) → Contains [] j → ⊥
-    no_judgement j (k, l, e) = omega arith
-
     none : (p : Path) → IsCoded s p → ⊥
-    none p (inl (j, c, e)) = no_judgement j (subst (λ (w : List Judged). Contains w j) start.judged c)
+    none p (inl (j, c, e)) = nothing_in j (subst (λ (w : List Judged). Contains w j) start.judged c)
     none p (inr (k, w, l, e)) = not_offered (start.hands k) e
 
 -- ---- where a path stands at least once
@@ -131,6 +126,11 @@ from_due x judged h = by (path_or_not x [])
         inr (from_below_splits x judged (let o : times x (due judged) ≡ times x (below_splits judged) = times_other x [] (below_splits judged) ne in
         omega arith))
 
+-- where no path is judged more often than it is due, each judged path is due
+pub judged_is_due : (judged : List Judged) → ((x : Path) → times x (paths judged) ≤ times x (due judged)) → (j : Judged) → Contains judged j
+    → IsDue judged j.path
+judged_is_due judged counts j c = from_due j.path judged (let a = stands_judged judged j c in let b = counts j.path in omega arith)
+
 -- ---- no path twice
 no_path : (x : Path) (judged : List Judged) → times x (paths judged) ≡ 0 → HasNoPath judged x
 no_path x [] h = tt
@@ -156,10 +156,12 @@ pub record AreDue (judged : List Judged) : Type 0 where
 pub are_due : (judged : List Judged) → ((x : Path) → times x (paths judged) ≡ times x (due judged)) → AreDue judged
 are_due judged counts = record {
   due = λ x h. has_path x judged (let a = stands_due judged x h in let b = counts x in omega arith);
-  no_other = λ j c. from_due j.path judged (let a = stands_judged judged j c in let b = counts j.path in omega arith);
-  once = once_each judged (λ x. (let a = counts x in let b : times x (due judged) ≤ 1 = due_once judged (λ y. (let c = counts y in omega arith)) x in
-      omega arith));
+  no_other = judged_is_due judged no_more;
+  once = once_each judged (λ x. (let a = counts x in let b : times x (due judged) ≤ 1 = due_once judged no_more x in omega arith));
 }
+  where
+    no_more : (x : Path) → times x (paths judged) ≤ times x (due judged)
+    no_more x = let a = counts x in omega arith
 
 -- ---- the end
 pub end_is_fair : (m : Mode) (n : ℕ) (q : Matrix) (d : ℕ) (s : State) → IsKept m n q d s → IsEnd s → IsFair m n q d s.judged s.word

@@ -244,6 +244,12 @@ pub record IsListing (n : ℕ) (keys list rest : List (List ℕ)) : Type 0 where
   pub are_vectors : IsVectorList list
   pub below : (k : ℕ) → k + 1 ≡ length front → All (λ y. key_order (slice_index_or front k []) y ≡ Less) rest
 
+-- a key that is taken from the set of those that are left
+pub record IsNextKey (n : ℕ) (keys list rest' : List (List ℕ)) (x : List ℕ) : Type 0 where
+  pub key : IsKey n x
+  pub follows : CanFollow list (take n x)
+  pub more : All (λ y. key_order x y ≡ Less) rest' → IsListing n keys (list ++ take n x ∷ []) rest'
+
 module _ (n : ℕ) (keys list rest rest' : List (List ℕ)) (x : List ℕ) (few : n ≤ 8) (are : AreKeys n keys) (h : IsListing n keys list rest)
     (e : rest ≡ x ∷ rest') where
   split_here : keys ≡ h.front ++ x ∷ rest'
@@ -285,31 +291,21 @@ module _ (n : ℕ) (keys list rest rest' : List (List ℕ)) (x : List ℕ) (few 
           subst (λ (w : List ℕ). ComesBefore w (take n x)) (sym (get_or-map (take n) h.front k [] [] lk))
           (less_comes_before n (slice_index_or h.front k []) x ((key_at k lk).size ∙ sym key_of_x.size) (key_at k lk).rest key_of_x.rest less)
 
-  listing_more : All (λ y. key_order x y ≡ Less) rest' → IsListing n keys (list ++ take n x ∷ []) rest'
-  listing_more above = record {
-    front = h.front ++ x ∷ [];
-    split = split_here ∙ sym (append_assoc h.front (x ∷ []) rest');
-    list_is = ap (λ (w : List (List ℕ)). w ++ take n x ∷ []) h.list_is ∙ sym (map-append (take n) h.front (x ∷ []));
-    are_vectors = list_push list (take n x) h.are_vectors follows;
-    below = λ k l. subst (λ (w : List ℕ). All (λ y. key_order w y ≡ Less) rest') (sym (last k (l ∙ length-append h.front (x ∷ [])))) above;
+  pub next_key : IsNextKey n keys list rest' x
+  next_key = record {
+    key = key_of_x;
+    follows = follows;
+    more = λ above. record {
+      front = h.front ++ x ∷ [];
+      split = split_here ∙ sym (append_assoc h.front (x ∷ []) rest');
+      list_is = ap (λ (w : List (List ℕ)). w ++ take n x ∷ []) h.list_is ∙ sym (map-append (take n) h.front (x ∷ []));
+      are_vectors = list_push list (take n x) h.are_vectors follows;
+      below = λ k l. subst (λ (w : List ℕ). All (λ y. key_order w y ≡ Less) rest') (sym (last k (l ∙ length-append h.front (x ∷ [])))) above;
+    };
   }
     where
       last : (k : ℕ) → k + 1 ≡ length h.front + 1 → slice_index_or (h.front ++ x ∷ []) k [] ≡ x
       last k l = let m : k ≡ length h.front = omega arith in rw m (read_here h.front [] x [])
-
--- a key that is taken from the set of those that are left
-pub record IsNextKey (n : ℕ) (keys list rest' : List (List ℕ)) (x : List ℕ) : Type 0 where
-  pub key : IsKey n x
-  pub follows : CanFollow list (take n x)
-  pub more : All (λ y. key_order x y ≡ Less) rest' → IsListing n keys (list ++ take n x ∷ []) rest'
-
-pub next_key : (n : ℕ) (keys list rest rest' : List (List ℕ)) (x : List ℕ) → n ≤ 8 → AreKeys n keys → IsListing n keys list rest → rest ≡ x ∷ rest'
-    → IsNextKey n keys list rest' x
-next_key n keys list rest rest' x few are h e = record {
-  key = key_of_x n keys list rest rest' x few are h e;
-  follows = follows n keys list rest rest' x few are h e;
-  more = listing_more n keys list rest rest' x few are h e;
-}
 
 pub listing_end : (n : ℕ) (keys list rest : List (List ℕ)) → IsListing n keys list rest → rest ≡ [] → IsVectorsOf n keys list
 listing_end n keys list rest h e =
@@ -328,22 +324,16 @@ module _ (n : ℕ) (q : Matrix) (judged : List Judged) (z : ℤ) (keys vectors :
   }
 
   pub lists_generators : ListsGenerators n q judged z vectors
-  lists_generators = record { each = each; all = all; increasing = v.increasing }
-    where
-      each : (x : List ℕ) → Contains vectors x → (j : Judged) × (k : ℕ) × Contains judged j × (k < n) × IsListOf n x (cone_at n q j.path k)
-          × (value n q (cone_at n q j.path) k ≡ z)
-      each x c =
-          let r = Contains-map_back (take n) keys x (subst (λ (w : List (List ℕ)). Contains w x) v.same c) in
-          let g = h.each r.0 r.1 in
-          (g.0, g.1, g.2, g.3, subst (λ (w : List ℕ). IsListOf n w (cone_at n q g.0.path g.1)) r.2 (as_vector r.0 (cone_at n q g.0.path g.1) g.4), g.5)
-
-      all : (j : Judged) (k : ℕ) (x : List ℕ) → Contains judged j → j.least ≡ z → k < n → IsListOf n x (cone_at n q j.path k)
-          → value n q (cone_at n q j.path) k ≡ z → Contains vectors x
-      all j k x c e l vec val =
-          let r = h.all j k c e l val in
-          let t : IsListOf n (take n r.0) (cone_at n q j.path k) = as_vector r.0 (cone_at n q j.path k) r.2 in
-          let same : take n r.0 ≡ x = vector_decided n (take n r.0) x t.size vec.size (λ p lp. t.same p lp ∙ sym (vec.same p lp)) in
-          subst (λ (w : List (List ℕ)). Contains w x) (sym v.same) (subst (Contains (map (take n) keys)) same (Contains-map (take n) keys r.0 r.1))
+  lists_generators = record {
+    each = λ x c. let r = Contains-map_back (take n) keys x (subst (λ (w : List (List ℕ)). Contains w x) v.same c) in
+        let g = h.each r.0 r.1 in
+        (g.0, g.1, g.2, g.3, subst (λ (w : List ℕ). IsListOf n w (cone_at n q g.0.path g.1)) r.2 (as_vector r.0 (cone_at n q g.0.path g.1) g.4), g.5);
+    all = λ j k x c e l vec val. let r = h.all j k c e l val in
+        let t : IsListOf n (take n r.0) (cone_at n q j.path k) = as_vector r.0 (cone_at n q j.path k) r.2 in
+        let same : take n r.0 ≡ x = vector_decided n (take n r.0) x t.size vec.size (λ p lp. t.same p lp ∙ sym (vec.same p lp)) in
+        subst (λ (w : List (List ℕ)). Contains w x) (sym v.same) (subst (Contains (map (take n) keys)) same (Contains-map (take n) keys r.0 r.1));
+    increasing = v.increasing;
+  }
 
 pub if_ok : {T E : Type 0} (r : Result T E) (P Q : T → Type 0) → ((x : T) → P x → Q x) → IfOk r P → IfOk r Q
 if_ok (Ok x) P Q f h = f x h

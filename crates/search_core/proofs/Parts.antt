@@ -2,6 +2,7 @@
 use Rattle.std.specs.Prelude.{◌≡◌, ◌≢◌, ℕ, suc, ◌<◌, ◌≤◌, ◌-◌, ℤ, pos, ◌≤ℤ◌, ◌⊎◌, List, length}
 use Rattle.std.specs.List.{Contains}
 use Rattle.std.proofs.Common.{arith, sym, ◌∙◌, ap, refl, inl, inr, subst}
+use Rattle.commutative_ring.proofs.SmallCases.{below_unless_same}
 use Rattle.exact_forms.specs.Forms.{IsSymmetric}
 use Rattle.symmetric_matrix.specs.Symmetric.{Symmetric, entry}
 use Rattle.unimodular_cone.specs.declared.Mode.{Mode}
@@ -140,10 +141,7 @@ module _ (m : Mode) (n : ℕ) (q : Matrix) (d : ℕ) (part : List Judged) (final
         let ne : length j.path ≢ d = fate.2 in
         answers_wide m n q d g.fair_part.all final g.symmetric g.fair_part.fair g.small g.some large g.narrow g.root_fits j
         (g.fair_part.relevant.within j h.member)
-        (less (length j.path) d short ne) at.path at.entry fate.3 (opens j h.member h.holds) (firsts j h)
-      where
-        less : (a b : ℕ) → a ≤ b → a ≢ b → a < b
-        less a b le ne = grind arith
+        (below_unless_same (length j.path) d short ne) at.path at.entry fate.3 (opens j h.member h.holds) (firsts j h)
 
     pub no_end : ((j : Judged) → Contains part j → ¬ IsOpenEnd n q (bound_under m final) j)
         → (k : Judged) → Contains g.fair_part.all k → IsLimitFate n q d k.path k.fate → ¬ IsOpen n q d (bound_under m final) k.path

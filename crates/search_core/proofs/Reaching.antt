@@ -9,12 +9,12 @@ use Rattle.unimodular_cone.specs.declared.Mode.{Mode}
 use Rattle.unimodular_cone.specs.Tree.{IsInTree}
 use Rattle.unimodular_cone.proofs.Tree.{length_child, in_tree_root, in_tree_child}
 use Rattle.search_core.specs.Fair.{Judged, IsDue, IsJudgement}
-use Rattle.search_core.specs.Machine.{Hand, Empty, State, hand, held, in_hands, paths, standing, due, times, IsKept}
+use Rattle.search_core.specs.Machine.{Empty, State, hand, held, paths, standing, due, times, IsKept}
 use Rattle.search_core.proofs.ShownFates.{judged_fate}
 use Rattle.search_core.proofs.Settle.{split_can}
 use Rattle.search_core.proofs.Times.{times_none, times_same, times_hands}
 use Rattle.search_core.proofs.Kept.{times_standing}
-use Rattle.search_core.proofs.Finish.{stands_judged, from_due}
+use Rattle.search_core.proofs.Finish.{from_due, judged_is_due}
 
 -- where each judged path is due, each due path is in the tree
 module _ (m : Mode) (n : ℕ) (q : Matrix) (d final : ℕ) (judged : List Judged) (each : (j : Judged) → Contains judged j → IsJudgement m n q d final j)
@@ -34,10 +34,7 @@ module _ (m : Mode) (n : ℕ) (q : Matrix) (d final : ℕ) (judged : List Judged
 -- where no path is judged more often than it is due, each path that is due is in the tree
 pub counted_in_tree : (m : Mode) (n : ℕ) (q : Matrix) (d final : ℕ) (judged : List Judged) → ((j : Judged) → Contains judged j → IsJudgement m n q d final j)
     → ((y : Path) → times y (paths judged) ≤ times y (due judged)) → (x : Path) → 1 ≤ times x (due judged) → IsInTree n q d x
-counted_in_tree m n q d final judged each counts x h = due_in_tree m n q d final judged each no_other x (from_due x judged h)
-  where
-    no_other : (j : Judged) → Contains judged j → IsDue judged j.path
-    no_other j c = from_due j.path judged (let a = stands_judged judged j c in let b = counts j.path in omega arith)
+counted_in_tree m n q d final judged each counts x h = due_in_tree m n q d final judged each (judged_is_due judged counts) x (from_due x judged h)
 
 -- the path in a hand of the machine is in the tree
 pub held_in_tree : (m : Mode) (n : ℕ) (q : Matrix) (d : ℕ) (s : State) (k : ℕ) (path : Path) → IsKept m n q d s → k < length s.hands

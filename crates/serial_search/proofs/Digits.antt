@@ -4,6 +4,8 @@ use Rattle.std.specs.List.{Contains}
 use Rattle.std.proofs.Common.{arith, sym, ◌∙◌, ap, refl, inl, inr, subst, append_assoc}
 use Rattle.std.proofs.lemmas.Int.{ints}
 use Rattle.std.proofs.lemmas.List.Elements.{Contains-push, Contains-append_left, Contains-append_right, Contains-append_cases}
+use Rattle.commutative_ring.proofs.SmallCases.{below_unless_same}
+use Rattle.exact_forms.proofs.Lists.{nothing_in}
 use Rattle.exact_forms.proofs.Vectors.{contains_cons, contains_here, contains_there}
 use Rattle.unimodular_cone.specs.declared.Mode.TheVariants.{Least}
 use Rattle.unimodular_cone.specs.declared.WideAt.{WideAt}
@@ -51,9 +53,6 @@ pub record IsWalking (n : ℕ) (q : Matrix) (d : ℕ) (b : ℤ) (stack : List Sh
   pub order : IsInOrder stack
   pub still : (p : Path) → IsOpen n q d b p → IsUnder stack p
 
-nothing : (e : ShownCone) → Contains [] e → ⊥
-nothing e (k, l, is) = omega arith
-
 pub walk_from_root : (n : ℕ) (q : Matrix) (d : ℕ) (b : ℤ) (root : ShownCone) → IsConeAt n q [] root → IsWalking n q d b (root ∷ [])
 walk_from_root n q d b root at = record {
   cones = λ c h. by c (contains_cons root [] c h);
@@ -69,7 +68,7 @@ walk_from_root n q d b root at = record {
 
     by : (c : ShownCone) → ((root ≡ c) ⊎ Contains [] c) → IsOnTheWay n q d b c
     by c (inl e) = subst (IsOnTheWay n q d b) e start
-    by c (inr h) = absurd (nothing c h)
+    by c (inr h) = absurd (nothing_in c h)
 
 -- a code is at least the final word
 pub word_below_code : (n : ℕ) (q : Matrix) (d word : ℕ) (c : ShownCone) → 0 < n → word < 2 ^ 64 → IsClearWord n q d word → IsConeAt n q c.path c
@@ -88,30 +87,37 @@ word_below_code n q d word c some fits w at t =
     within : (x : ℕ) (z : ℤ) → pos 1 ≤ℤ z → bound_under Least x ≤ℤ z → 257 ≤ x → x ≤ 256 + nat_abs z
     within x z p l h = omega (arith, ints)
 
-module _ (n : ℕ) (q : Matrix) (d word : ℕ) (stack front : List ShownCone) (cone : ShownCone) (f : Fate) (final : IsClearWord n q d word)
-    (h : IsWalking n q d (bound_under Least word) stack) (popped : IsOnTop cone front stack) (shown : IsShownFate Least cone d word f) where
+-- a turn of the walk: the top of the stack, and its fate
+pub record IsWalkTurn (n : ℕ) (q : Matrix) (d word : ℕ) (stack front : List ShownCone) (cone : ShownCone) (f : Fate) : Type 0 where
+  pub final : IsClearWord n q d word
+  pub walking : IsWalking n q d (bound_under Least word) stack
+  pub popped : IsOnTop cone front stack
+  pub shown : IsShownFate Least cone d word f
+
+module _ {n : ℕ} {q : Matrix} {d word : ℕ} {stack front : List ShownCone} {cone : ShownCone} {f : Fate}
+    (turn : IsWalkTurn n q d word stack front cone f) where
   here : IsOnTheWay n q d (bound_under Least word) cone
-  here = h.cones cone (subst (λ (s : List ShownCone). Contains s cone) (sym popped) (Contains-push front cone))
+  here = turn.walking.cones cone (subst (λ (s : List ShownCone). Contains s cone) (sym turn.popped) (Contains-push front cone))
 
   fate : IsPathFate Least n q d cone.path word f
-  fate = path_fate Least n q d cone.path word f (fate_at Least n q d word cone.path cone f here.at shown)
+  fate = path_fate Least n q d cone.path word f (fate_at Least n q d word cone.path cone f here.at turn.shown)
 
   in_order : IsInOrder (front ++ cone ∷ [])
-  in_order = subst IsInOrder popped h.order
+  in_order = subst IsInOrder turn.popped turn.walking.order
 
   below_cone : (c : ShownCone) → Contains front c → IsOnTheWay n q d (bound_under Least word) c
-  below_cone c k = h.cones c (subst (λ (s : List ShownCone). Contains s c) (sym popped) (Contains-append_left front (cone ∷ []) c k))
+  below_cone c k = turn.walking.cones c (subst (λ (s : List ShownCone). Contains s c) (sym turn.popped) (Contains-append_left front (cone ∷ []) c k))
 
   -- an open path lies under the top, or under what stands below it
   under_top_or : (p : Path) → IsOpen n q d (bound_under Least word) p → Begins cone.path p ⊎ IsUnder front p
-  under_top_or p o = at_member (h.still p o)
+  under_top_or p o = at_member (turn.walking.still p o)
     where
       at_member : IsUnder stack p → Begins cone.path p ⊎ IsUnder front p
-      at_member u = by (Contains-append_cases front (cone ∷ []) u.cone (subst (λ (s : List ShownCone). Contains s u.cone) popped u.member))
+      at_member u = by (Contains-append_cases front (cone ∷ []) u.cone (subst (λ (s : List ShownCone). Contains s u.cone) turn.popped u.member))
         where
           last : ((cone ≡ u.cone) ⊎ Contains [] u.cone) → Begins cone.path p ⊎ IsUnder front p
           last (inl e) = inl (u.more, u.is ∙ ap (λ (c : ShownCone). c.path ++ u.more) (sym e))
-          last (inr k) = absurd (nothing u.cone k)
+          last (inr k) = absurd (nothing_in u.cone k)
 
           by : (Contains front u.cone ⊎ Contains (cone ∷ []) u.cone) → Begins cone.path p ⊎ IsUnder front p
           by (inl k) = inr (record { cone = u.cone; member = k; more = u.more; is = u.is })
@@ -128,9 +134,9 @@ module _ (n : ℕ) (q : Matrix) (d word : ℕ) (stack front : List ShownCone) (c
   open_answer : (¬ IsClosedAt n q cone.path (bound_under Least word)) → ((length cone.path ≡ d) ⊎ HasWideChild n q cone.path)
       → IsOpenAnswer Least n q d cone.path
   open_answer itself ends = record {
-    clear = final.clear;
+    clear = turn.final.clear;
     bound = bound_under Least word;
-    is_bound = final.bound;
+    is_bound = turn.final.bound;
     first_open = first_open (record { in_tree = here.way.in_tree; ends = ends; itself = itself; above = here.way.above });
   }
 
@@ -143,12 +149,9 @@ module _ (n : ℕ) (q : Matrix) (d word : ℕ) (stack front : List ShownCone) (c
   pub wide_is_due : (w : ℕ) (at : WideAt) → f ≡ Wide w at → IsSearchAnswer Least n q d (SearchAnswer.Wide at.path at.entry)
   wide_is_due w at e = by (subst (IsPathFate Least n q d cone.path word) e fate)
     where
-      less : (x y : ℕ) → x ≤ y → x ≢ y → x < y
-      less x y le ne = grind arith
-
       by : IsPathFate Least n q d cone.path word (Wide w at) → IsSearchAnswer Least n q d (SearchAnswer.Wide at.path at.entry)
       by (is, u, ne, wide) =
-          inr (cone.path, open_answer u.not_closed (inr (at.path, at.entry, wide)), less (length cone.path) d here.way.in_tree.short ne, wide)
+          inr (cone.path, open_answer u.not_closed (inr (at.path, at.entry, wide)), below_unless_same (length cone.path) d here.way.in_tree.short ne, wide)
 
   -- ---- the walk goes on
   -- no open path lies under a closed top
@@ -174,17 +177,14 @@ module _ (n : ℕ) (q : Matrix) (d word : ℕ) (stack front : List ShownCone) (c
     split_fate = subst (IsPathFate Least n q d cone.path word) is fate
 
     split_shown : IsShownFate Least cone d word (Split i j w)
-    split_shown = subst (IsShownFate Least cone d word) is shown
+    split_shown = subst (IsShownFate Least cone d word) is turn.shown
 
     can : CanSplit n q (cone_at n q cone.path)
     can = (split_can Least n q d cone.path (Split i j w)
         (subst (λ (x : ℕ). IsPathFate Least n q d cone.path x (Split i j w)) (sym split_fate.0) split_fate) tt).0
 
     short : length cone.path < d
-    short = less (length cone.path) d here.way.in_tree.short split_fate.2
-      where
-        less : (x y : ℕ) → x ≤ y → x ≢ y → x < y
-        less x y le ne = grind arith
+    short = below_unless_same (length cone.path) d here.way.in_tree.short split_fate.2
 
     child_way : (side : Bool) → IsWayDown n q d (bound_under Least word) (cone.path ++ side ∷ [])
     child_way side = record {
@@ -215,7 +215,7 @@ module _ (n : ℕ) (q : Matrix) (d word : ℕ) (stack front : List ShownCone) (c
       where
         of_first : (c : ShownCone) → ((s.first ≡ c) ⊎ Contains [] c) → IsOnTheWay n q d (bound_under Least word) c
         of_first c (inl e) = subst (IsOnTheWay n q d (bound_under Least word)) e (a_child false s.first s.is_first)
-        of_first c (inr k) = absurd (nothing c k)
+        of_first c (inr k) = absurd (nothing_in c k)
 
         of_two : (c : ShownCone) → ((s.second ≡ c) ⊎ Contains (s.first ∷ []) c) → IsOnTheWay n q d (bound_under Least word) c
         of_two c (inl e) = subst (IsOnTheWay n q d (bound_under Least word)) e (a_child true s.second s.is_second)
@@ -263,16 +263,16 @@ module _ (n : ℕ) (q : Matrix) (d word : ℕ) (stack front : List ShownCone) (c
       by (Low k) e s none = absurd (no_low k (subst (IsPathFate Least n q d cone.path word) e fate))
         where
           no_low : (k : ℕ) → IsPathFate Least n q d cone.path word (Low k) → ⊥
-          no_low k (l, (i, is, at)) = final.clear.none_low cone.path here.way.in_tree (i, at.range, at.low)
+          no_low k (l, (i, is, at)) = turn.final.clear.none_low cone.path here.way.in_tree (i, at.range, at.low)
       by (Dropped w) e s none = absurd (no_drop w (subst (IsPathFate Least n q d cone.path word) e fate))
         where
           no_drop : (w : ℕ) → IsPathFate Least n q d cone.path word (Dropped w) → ⊥
-          no_drop w (is, lt, why) = let p : 257 ≤ word = final.past in omega arith
+          no_drop w (is, lt, why) = let p : 257 ≤ word = turn.final.past in omega arith
       by (AtLimit w) e s none = absurd (none tt)
       by (Wide w at) e s none = absurd (none tt)
 
   pub walk_shortens : (new : List ShownCone) → AreStacked cone f front new → cones_left d new < cones_left d stack
-  walk_shortens new stacks = fewer_cones d stack front new cone here.way.in_tree.short popped f (λ split. apart f refl split) stacks
+  walk_shortens new stacks = fewer_cones d stack front new cone here.way.in_tree.short turn.popped f (λ split. apart f refl split) stacks
     where
       apart : (g : Fate) → f ≡ g → IsSplit g → length cone.path ≢ d
       apart (Split i j w) e split = (subst (IsPathFate Least n q d cone.path word) e fate).2
@@ -291,4 +291,4 @@ none_left n q d word stack e final h = record {
 }
   where
     by : {p : Path} → IsUnder stack p → ⊥
-    by u = nothing u.cone (subst (λ (s : List ShownCone). Contains s u.cone) e u.member)
+    by u = nothing_in u.cone (subst (λ (s : List ShownCone). Contains s u.cone) e u.member)

@@ -1,8 +1,9 @@
 -- Stacks in the order of digits: with all that lies below it, each cone comes before the cones that stand under it.
 use Rattle.std.specs.Prelude.{◌≡◌, ◌⊎◌, true, false, List, [], ◌∷◌, ◌++◌}
 use Rattle.std.specs.List.{Contains}
-use Rattle.std.proofs.Common.{arith, inl, inr, subst}
+use Rattle.std.proofs.Common.{inl, inr, subst}
 use Rattle.std.proofs.lemmas.List.Elements.{Contains-push, Contains-append_left, Contains-append_cases}
+use Rattle.exact_forms.proofs.Lists.{nothing_in}
 use Rattle.exact_forms.proofs.Vectors.{contains_cons}
 use Rattle.unimodular_cone.specs.Paths.{Path, IsNoLater}
 use Rattle.unimodular_cone.specs.Shown.{ShownCone}
@@ -47,18 +48,15 @@ abbrev pub IsInOrder : List ShownCone → Type 0
 IsInOrder [] = Unit {0}
 IsInOrder (c ∷ above) = ((e : ShownCone) → Contains above e → IsLeftOf e.path c.path) × IsInOrder above
 
-nothing : (e : ShownCone) → Contains [] e → ⊥
-nothing e (k, l, is) = omega arith
-
 pub one_in_order : (c : ShownCone) → IsInOrder (c ∷ [])
-one_in_order c = ((λ e h. absurd (nothing e h)), tt)
+one_in_order c = ((λ e h. absurd (nothing_in e h)), tt)
 
 pub order_below : (rest : List ShownCone) (c : ShownCone) → IsInOrder (rest ++ c ∷ []) → IsInOrder rest
 order_below [] c h = tt
 order_below (x ∷ rest) c (left, h) = ((λ e k. left e (Contains-append_left rest (c ∷ []) e k)), order_below rest c h)
 
 pub top_is_left : (rest : List ShownCone) (c e : ShownCone) → IsInOrder (rest ++ c ∷ []) → Contains rest e → IsLeftOf c.path e.path
-top_is_left [] c e h k = absurd (nothing e k)
+top_is_left [] c e h k = absurd (nothing_in e k)
 top_is_left (x ∷ rest) c e (left, h) k = by (contains_cons x rest e k) (top_is_left rest c e h)
   where
     by : ((x ≡ e) ⊎ Contains rest e) → (Contains rest e → IsLeftOf c.path e.path) → IsLeftOf c.path e.path
@@ -75,7 +73,7 @@ split_in_order [] c second first at_second at_first h = (here, one_in_order firs
       where
         by : ((first ≡ e) ⊎ Contains [] e) → IsLeftOf e.path second.path
         by (inl is) = subst (λ (y : ShownCone). IsLeftOf y.path second.path) is (rw (at_first, at_second) (sides_part c.path))
-        by (inr there) = absurd (nothing e there)
+        by (inr there) = absurd (nothing_in e there)
 split_in_order (x ∷ rest) c second first at_second at_first (left, h) = (left_of, split_in_order rest c second first at_second at_first h)
   where
     at_top : IsLeftOf c.path x.path
@@ -87,7 +85,7 @@ split_in_order (x ∷ rest) c second first at_second at_first (left, h) = (left_
       where
         of_one : ((first ≡ e) ⊎ Contains [] e) → IsLeftOf e.path x.path
         of_one (inl is) = subst (λ (y : ShownCone). IsLeftOf y.path x.path) is (rw at_first (left_more c.path x.path (false ∷ []) at_top))
-        of_one (inr there) = absurd (nothing e there)
+        of_one (inr there) = absurd (nothing_in e there)
 
     left_of : (e : ShownCone) → Contains (rest ++ second ∷ first ∷ []) e → IsLeftOf e.path x.path
     left_of e k = by (Contains-append_cases rest (second ∷ first ∷ []) e k)

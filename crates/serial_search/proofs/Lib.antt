@@ -1,6 +1,8 @@
 pub mod Tops
 pub mod Stacks
+pub mod Loops
 pub mod Holds
+pub mod WalkArenas
 pub mod Lows
 pub mod Lefts
 pub mod Digits

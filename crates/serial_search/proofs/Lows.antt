@@ -8,6 +8,8 @@ use Rattle.std.specs.declared.cmp.Ordering.{Ordering}
 use Rattle.std.specs.declared.cmp.Ordering.TheVariants.{Less, Equal, Greater}
 use Rattle.std.proofs.Common.{arith, sym, ◌∙◌, ap, refl, inl, inr, subst}
 use Rattle.exact_forms.specs.Forms.{IsSymmetric}
+use Rattle.commutative_ring.proofs.SmallCases.{below_or_not}
+use Rattle.exact_forms.proofs.Lists.{nothing_in}
 use Rattle.exact_forms.proofs.Vectors.{contains_cons, contains_here, contains_there}
 use Rattle.unimodular_cone.specs.declared.Mode.TheVariants.{Least}
 use Rattle.unimodular_cone.specs.Paths.{Path, IsNoLater, IsNoDeeper, place_order, depth_order}
@@ -20,7 +22,7 @@ use Rattle.search_core.specs.declared.Fate.{Fate}
 use Rattle.search_core.specs.declared.Fate.TheVariants.{Closed, Split, Low, Dropped, AtLimit, Wide}
 use Rattle.search_core.specs.declared.Judged.{Judged}
 use Rattle.search_core.specs.Fair.{word_of, code, code_of, start_of, start_word, least_value, IsLowFate, IsFair}
-use Rattle.search_core.specs.Judging.{shown_code, shown_least, IsShownFate, IsJudgementOf}
+use Rattle.search_core.specs.Judging.{shown_code, shown_least, IsShownFate}
 use Rattle.search_core.proofs.PathFates.{IsPathFate}
 use Rattle.search_core.proofs.ShownFates.{judged_fate}
 use Rattle.search_core.proofs.Fairness.{judged_in_tree, none_low, settles_low}
@@ -65,14 +67,10 @@ abbrev pub HasFirstLow : List Judged → Option LowCone → Type 0
 HasFirstLow judged None = (k : Judged) → Contains judged k → ¬ IsLowFate k.fate
 HasFirstLow judged (Some low) = IsFirstOfLow judged low
 
--- one more, which is not low
-not_noted : (judged : List Judged) (j : Judged) (first : Option LowCone) → (¬ IsLowFate j.fate) → HasFirstLow judged first → HasFirstLow (j ∷ judged) first
-not_noted judged j None not_low h = λ k c low. by k low (contains_cons j judged k c)
-  where
-    by : (k : Judged) → IsLowFate k.fate → ((j ≡ k) ⊎ Contains judged k) → ⊥
-    by k low (inl e) = not_low (subst (λ (i : Judged). IsLowFate i.fate) (sym e) low)
-    by k low (inr d) = h k d low
-not_noted judged j (Some l) not_low h = record {
+-- one more, which is not low, or comes behind
+stays_first : (judged : List Judged) (j : Judged) (l : LowCone) → (IsLowFate j.fate → IsNoDeeper l.path j.path) → IsFirstOfLow judged l
+    → IsFirstOfLow (j ∷ judged) l
+stays_first judged j l comes h = record {
   j = h.j;
   member = contains_there j judged h.j h.member;
   path_is = h.path_is;
@@ -81,8 +79,20 @@ not_noted judged j (Some l) not_low h = record {
 }
   where
     by : (k : Judged) → IsLowFate k.fate → ((j ≡ k) ⊎ Contains judged k) → IsNoDeeper l.path k.path
-    by k low (inl e) = absurd (not_low (subst (λ (i : Judged). IsLowFate i.fate) (sym e) low))
+    by k low (inl e) = subst (λ (i : Judged). IsNoDeeper l.path i.path) e (comes (subst (λ (i : Judged). IsLowFate i.fate) (sym e) low))
     by k low (inr d) = h.first k d low
+
+not_noted : (judged : List Judged) (j : Judged) (first : Option LowCone) → (¬ IsLowFate j.fate) → HasFirstLow judged first → HasFirstLow (j ∷ judged) first
+not_noted judged j None not_low h = λ k c low. by k low (contains_cons j judged k c)
+  where
+    by : (k : Judged) → IsLowFate k.fate → ((j ≡ k) ⊎ Contains judged k) → ⊥
+    by k low (inl e) = not_low (subst (λ (i : Judged). IsLowFate i.fate) (sym e) low)
+    by k low (inr d) = h k d low
+not_noted judged j (Some l) not_low h = stays_first judged j l (λ low. absurd (not_low low)) h
+
+behind : (judged : List Judged) (j : Judged) (first : Option LowCone) → HasFirstLow judged first → ComesBehind j.path first → HasFirstLow (j ∷ judged) first
+behind judged j None h comes = absurd comes
+behind judged j (Some l) h comes = stays_first judged j l (λ low. comes) h
 
 -- one more, which is low and comes first
 noted : (judged : List Judged) (j : Judged) (which : ℕ) (first : Option LowCone) → j.fate ≡ Low which → HasFirstLow judged first → ComesFirst j.path first
@@ -101,44 +111,18 @@ noted judged j which first e h comes = record {
     by k low (inr d) None h comes = absurd (h k d low)
     by k low (inr d) (Some l) h comes = no_deeper_trans j.path l.path k.path comes (h.first k d low)
 
--- one more, which is low and comes behind
-behind : (judged : List Judged) (j : Judged) (first : Option LowCone) → HasFirstLow judged first → ComesBehind j.path first → HasFirstLow (j ∷ judged) first
-behind judged j None h comes = absurd comes
-behind judged j (Some l) h comes = record {
-  j = h.j;
-  member = contains_there j judged h.j h.member;
-  path_is = h.path_is;
-  fate_is = h.fate_is;
-  first = λ k c low. by k low (contains_cons j judged k c);
-}
-  where
-    by : (k : Judged) → IsLowFate k.fate → ((j ≡ k) ⊎ Contains judged k) → IsNoDeeper l.path k.path
-    by k low (inl e) = subst (λ (i : Judged). IsNoDeeper l.path i.path) e comes
-    by k low (inr d) = h.first k d low
+abbrev judgement : ShownCone → Fate → ℤ → Judged
+judgement c f z = record { path = c.path; fate = f; least = z }
 
 more_noted : (judged : List Judged) (c : ShownCone) (f : Fate) (z : ℤ) (first new : Option LowCone) → HasFirstLow judged first → IsLowNoted c f first new
-    → HasFirstLow (record { path = c.path; fate = f; least = z } ∷ judged) new
-more_noted judged c (Low k) z first new h (inl (comes, e)) =
-    subst (HasFirstLow (record { path = c.path; fate = Low k; least = z } ∷ judged)) (sym e)
-    (noted judged (record { path = c.path; fate = Low k; least = z }) k first refl h comes)
-more_noted judged c (Low k) z first new h (inr (comes, e)) =
-    subst (HasFirstLow (record { path = c.path; fate = Low k; least = z } ∷ judged)) (sym e)
-    (behind judged (record { path = c.path; fate = Low k; least = z }) first h comes)
-more_noted judged c (Closed w) z first new h e =
-    subst (HasFirstLow (record { path = c.path; fate = Closed w; least = z } ∷ judged)) (sym e)
-    (not_noted judged (record { path = c.path; fate = Closed w; least = z }) first (λ x. x) h)
-more_noted judged c (Split a b w) z first new h e =
-    subst (HasFirstLow (record { path = c.path; fate = Split a b w; least = z } ∷ judged)) (sym e)
-    (not_noted judged (record { path = c.path; fate = Split a b w; least = z }) first (λ x. x) h)
-more_noted judged c (Dropped w) z first new h e =
-    subst (HasFirstLow (record { path = c.path; fate = Dropped w; least = z } ∷ judged)) (sym e)
-    (not_noted judged (record { path = c.path; fate = Dropped w; least = z }) first (λ x. x) h)
-more_noted judged c (AtLimit w) z first new h e =
-    subst (HasFirstLow (record { path = c.path; fate = AtLimit w; least = z } ∷ judged)) (sym e)
-    (not_noted judged (record { path = c.path; fate = AtLimit w; least = z }) first (λ x. x) h)
-more_noted judged c (Wide w at) z first new h e =
-    subst (HasFirstLow (record { path = c.path; fate = Wide w at; least = z } ∷ judged)) (sym e)
-    (not_noted judged (record { path = c.path; fate = Wide w at; least = z }) first (λ x. x) h)
+    → HasFirstLow (judgement c f z ∷ judged) new
+more_noted judged c (Low k) z first new h (inl (comes, e)) = rw e (noted judged (judgement c (Low k) z) k first refl h comes)
+more_noted judged c (Low k) z first new h (inr (comes, e)) = rw e (behind judged (judgement c (Low k) z) first h comes)
+more_noted judged c (Closed w) z first new h e = rw e (not_noted judged (judgement c (Closed w) z) first (λ x. x) h)
+more_noted judged c (Split a b w) z first new h e = rw e (not_noted judged (judgement c (Split a b w) z) first (λ x. x) h)
+more_noted judged c (Dropped w) z first new h e = rw e (not_noted judged (judgement c (Dropped w) z) first (λ x. x) h)
+more_noted judged c (AtLimit w) z first new h e = rw e (not_noted judged (judgement c (AtLimit w) z) first (λ x. x) h)
+more_noted judged c (Wide w at) z first new h e = rw e (not_noted judged (judgement c (Wide w at) z) first (λ x. x) h)
 
 -- ---- the first walk: the search that keeps every judgement, with a list that is nowhere kept
 pub record IsFalling (n : ℕ) (q : Matrix) (d : ℕ) (stack : List ShownCone) (word : ℕ) (first : Option LowCone) : Type 0 where
@@ -147,29 +131,24 @@ pub record IsFalling (n : ℕ) (q : Matrix) (d : ℕ) (stack : List ShownCone) (
   pub low : HasFirstLow judged first
 
 pub falls_from_root : (n : ℕ) (q : Matrix) (d : ℕ) (root : ShownCone) → IsConeAt n q [] root → IsFalling n q d (root ∷ []) (start_word Least n q) None
-falls_from_root n q d root at = record { judged = []; search = plain_starts Least n q d root at; low = λ k c. absurd (nothing k c) }
-  where
-    nothing : (k : Judged) → Contains [] k → ⊥
-    nothing k (i, l, e) = omega arith
+falls_from_root n q d root at = record { judged = []; search = plain_starts Least n q d root at; low = λ k c. absurd (nothing_in k c) }
 
-module _ (n : ℕ) (q : Matrix) (d : ℕ) (stack front new : List ShownCone) (cone : ShownCone) (word : ℕ) (first next : Option LowCone) (f : Fate) (some : 1 ≤ n)
-    (h : IsFalling n q d stack word first) (popped : IsOnTop cone front stack) (fate : IsShownFate Least cone d (min word (shown_code Least cone)) f)
-    (stacks : AreStacked cone f front new) where
-  abbrev j : Judged
-  j = record { path = cone.path; fate = f; least = shown_least cone }
+-- one turn
+pub record FallsOn (n : ℕ) (q : Matrix) (d : ℕ) (stack new : List ShownCone) (word : ℕ) (first : Option LowCone) : Type 0 where
+  pub falling : IsFalling n q d new word first
+  pub fewer : cones_left d new < cones_left d stack
 
-  is_judgement : IsJudgementOf Least cone d (min word (shown_code Least cone)) j
-  is_judgement = record { path_is = refl; least_is = refl; fate = fate }
-
-  pub falls_on : IsLowNoted cone f first next → IsFalling n q d new (min word (shown_code Least cone)) next
-  falls_on note = record {
-    judged = j ∷ h.judged;
-    search = (plain_step Least n q d stack front new cone word h.judged j some h.search popped is_judgement stacks).0;
-    low = more_noted h.judged cone f (shown_least cone) first next h.low note;
-  }
-
-  pub falls_further : cones_left d new < cones_left d stack
-  falls_further = (plain_step Least n q d stack front new cone word h.judged j some h.search popped is_judgement stacks).1
+pub falls_on : (n : ℕ) (q : Matrix) (d : ℕ) (stack front new : List ShownCone) (cone : ShownCone) (word : ℕ) (first next : Option LowCone) (f : Fate) → 1 ≤ n
+    → IsFalling n q d stack word first → IsOnTop cone front stack → IsShownFate Least cone d (min word (shown_code Least cone)) f
+    → AreStacked cone f front new → IsLowNoted cone f first next → FallsOn n q d stack new (min word (shown_code Least cone)) next
+falls_on n q d stack front new cone word first next f some h popped fate stacks note =
+    let j : Judged = judgement cone f (shown_least cone) in
+    let step = plain_step Least n q d stack front new cone word h.judged j some h.search popped (record { path_is = refl; least_is = refl; fate = fate })
+    stacks in
+    record {
+      falling = record { judged = j ∷ h.judged; search = step.0; low = more_noted h.judged cone f (shown_least cone) first next h.low note };
+      fewer = step.1;
+    }
 
 -- ---- the end of the first walk
 -- a code is a depth, or over 256
@@ -241,15 +220,12 @@ module _ (n : ℕ) (q : Matrix) (d : ℕ) (judged : List Judged) (final : ℕ) (
     bound = final_bound Least n q d judged final s fair small large some narrow;
   }
     where
-      large_or : (x : ℕ) → (x < 256) ⊎ (256 ≤ x)
-      large_or x = grind arith
-
       by : ((final < 256) ⊎ (256 ≤ final)) → 256 ≤ final
       by (inl lt) = absurd (let r = some_low Least n q d judged final s fair small some lt in none r.0 r.1 r.2)
       by (inr le) = le
 
       large : 256 ≤ final
-      large = by (large_or final)
+      large = by (below_or_not final 256)
 
       past : ((final ≡ start_word Least n q) ⊎ ((j : Judged) × Contains judged j × (final ≡ code Least n q j.path))) → 257 ≤ final
       past (inl e) = let h : 257 ≤ start_word Least n q = start_past _ in omega arith

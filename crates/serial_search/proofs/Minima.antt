@@ -1,51 +1,23 @@
 -- What the answers without the list say, and that they are the answers of `least`.
-use Rattle.std.specs.Prelude.{◌≡◌, ◌<◌, ℕ, ℤ, pos, ◌≤ℤ◌, nat_abs, List, length}
-use Rattle.std.proofs.Common.{arith, sym, ◌∙◌, ap, refl, inl, inr, subst}
+use Rattle.std.specs.Prelude.{◌≡◌, ℕ, ℤ, ◌≤ℤ◌, List}
+use Rattle.std.proofs.Common.{arith, sym, ap, refl, inl, inr, subst}
 use Rattle.std.proofs.lemmas.Int.{ints}
-use Rattle.exact_forms.specs.Forms.{form, IsSymmetric}
+use Rattle.exact_forms.specs.Forms.{IsSymmetric}
 use Rattle.unimodular_cone.specs.declared.Mode.{Mode}
 use Rattle.unimodular_cone.specs.Paths.{Path}
-use Rattle.unimodular_cone.specs.Cones.{Matrix, value, cone_at}
-use Rattle.unimodular_cone.specs.Tree.{IsInTree, IsOpen}
-use Rattle.unimodular_cone.specs.Answer.{SearchAnswer, IsSearchAnswer, IsClosedAnswer, IsOpenAnswer, BoundFits, IsListOf}
-use Rattle.unimodular_cone.specs.Answer.{Attains, IsNonzero, coordinate}
-use Rattle.unimodular_cone.proofs.Covers.{value_same, closed_at_least}
-use Rattle.unimodular_cone.proofs.Generators.{listed, as_vector, proper}
-use Rattle.unimodular_cone.proofs.Minimum.{lies_in_closed, nonneg_place, not_low_Least, low_is}
+use Rattle.unimodular_cone.specs.Cones.{Matrix}
+use Rattle.unimodular_cone.specs.Tree.{IsOpen}
+use Rattle.unimodular_cone.specs.Answer.{SearchAnswer, IsSearchAnswer, IsClosedAnswer, IsOpenAnswer, BoundFits}
+use Rattle.unimodular_cone.proofs.Minimum.{bound_positive, bound_least, bound_attained, low_is}
 use Rattle.unimodular_cone.proofs.AnswerUnique.{answer_unique, final_bound_unique}
 use Rattle.search_core.specs.declared.Least.{Least}
 use Rattle.serial_search.specs.declared.values.ValueOnly.{ValueOnly}
-use Rattle.serial_search.specs.Values.{IsLeastValueAnswer, IsLeastValue, ValueHolds, ValueIsOfLeast}
+use Rattle.serial_search.specs.Values.{IsLeastValueAnswer, ValueHolds, ValueIsOfLeast}
 
 -- ---- what they say
-least_value_is : (n : ℕ) (q : Matrix) (d : ℕ) (b : ℤ) → IsSymmetric n q → IsClosedAnswer Mode.Least n q d b → IsLeastValue n q b
-least_value_is n q d b s a = record { positive = positive a.is_bound.attained; least = least; attained = attained a.is_bound.attained }
-  where
-    positive : ((path : Path) × (k : ℕ) × IsInTree n q d path × (k < n) × (value n q (cone_at n q path) k ≡ b)) → pos 1 ≤ℤ b
-    positive (path, k, t, l, e) = subst (λ (z : ℤ). pos 1 ≤ℤ z) e (not_low_Least _ (λ h. a.clear.none_low path t (k, l, h)))
-
-    least : (x : List ℕ) → length x ≡ n → IsNonzero n x → b ≤ℤ form n q (coordinate x)
-    least x size nonzero =
-        let p : pos 1 ≤ℤ b = positive a.is_bound.attained in
-        let r = lies_in_closed Mode.Least n q d b s a (coordinate x) (nonneg_place n x) in
-        closed_at_least n q (cone_at n q r.path) b (coordinate x) s (omega (arith, ints)) r.stops r.lies nonzero
-
-    attained : ((path : Path) × (k : ℕ) × IsInTree n q d path × (k < n) × (value n q (cone_at n q path) k ≡ b)) → (x : List ℕ) × Attains n q b x
-    attained (path, k, t, l, e) =
-        let v : ℕ → ℤ = cone_at n q path k in
-        let x : List ℕ = listed n (λ p. nat_abs (v p)) in
-        let h : IsListOf n x v = as_vector n v ((proper n q path).nonnegative k l) in
-        let z = (proper n q path).nonzero k l in (
-          x,
-          record {
-            size = h.size;
-            nonzero = (z.0, z.1, λ is. z.2 (sym (h.same z.0 z.1) ∙ is));
-            value = value_same n q (coordinate x) v h.same ∙ e;
-          },
-        )
-
 pub value_holds : (n : ℕ) (q : Matrix) (d : ℕ) (answer : ValueOnly) → IsSymmetric n q → IsLeastValueAnswer n q d answer → ValueHolds n q answer
-value_holds n q d (ValueOnly.Found m) s a = least_value_is n q d m s a
+value_holds n q d (ValueOnly.Found m) s a =
+    record { positive = bound_positive n q d m s a; least = bound_least n q d m s a; attained = bound_attained n q d m s a }
 value_holds n q d (ValueOnly.Low x z path) s a = low_is Mode.Least n q d x z path a
 value_holds n q d (ValueOnly.Depth path) s a = tt
 value_holds n q d (ValueOnly.Wide at) s a = tt

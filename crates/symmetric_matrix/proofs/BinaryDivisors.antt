@@ -113,11 +113,15 @@ pub record IsStep (a b gap : ℕ) : Type 0 where
 quotient_le : (n t : ℕ) → n / 2 ^ t * 2 ^ t ≡ n → n / 2 ^ t ≤ n
 quotient_le n t e = omega (arith, shr_le n t)
 
+-- which one is greater, with the difference and the lesser one
+abbrev IsEitherGreater : ℕ → ℕ → Type 0
+IsEitherGreater a b = ((b < a) × ((a - b) + (b - a) ≡ a - b) × (min a b ≡ b)) ⊎ ((a < b) × ((a - b) + (b - a) ≡ b - a) × (min a b ≡ a))
+
 -- the odd part of the difference in place of the greater number
 pub step : (a b : ℕ) → a % 2 ≡ 1 → b % 2 ≡ 1 → a < 2 ^ 64 → b < 2 ^ 64 → a ≢ b → IsStep a b ((a - b) + (b - a))
 step a b oa ob ha hb ne = by (cases a b ne)
   where
-    cases : (a b : ℕ) → a ≢ b → ((b < a) × ((a - b) + (b - a) ≡ a - b) × (min a b ≡ b)) ⊎ ((a < b) × ((a - b) + (b - a) ≡ b - a) × (min a b ≡ a))
+    cases : (a b : ℕ) → a ≢ b → IsEitherGreater a b
     cases a b ne = grind arith
 
     less : (a b : ℕ) → b % 2 ≡ 1 → a < 2 ^ 64 → b < a → let gap = a - b in let t = count_trailing_zeros 64 gap in
@@ -133,7 +137,7 @@ step a b oa ob ha hb ne = by (cases a b ne)
           omega arith,
         )
 
-    by : (((b < a) × ((a - b) + (b - a) ≡ a - b) × (min a b ≡ b)) ⊎ ((a < b) × ((a - b) + (b - a) ≡ b - a) × (min a b ≡ a))) → IsStep a b ((a - b) + (b - a))
+    by : IsEitherGreater a b → IsStep a b ((a - b) + (b - a))
     by (inl (lt, g, m)) = let l = less a b ob ha lt in
         rw g (record {
           odd = l.0;

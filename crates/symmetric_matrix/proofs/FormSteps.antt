@@ -64,45 +64,42 @@ pub length-form_products : (x : List ℕ) (lower : List ℤ) → length (form_pr
 unfolding form_products
 length-form_products x lower = length-map (triangle_places (length x)) (form_product (symmetric_of (length x) lower) x) ∙ length-triangle_places (length x)
 
-form_product_at : (x : List ℕ) (lower : List ℤ) (k i j : ℕ) (q w : ℤ) (d : Product) → length lower ≡ triangle (length x) → k ≡ triangle i + j → j ≤ i
-    → k < length lower
-    → q ≡ slice_index_or lower k (pos 0) → w ≡ pos (multiplicity (record { row = i; column = j }) * (slice_index_or x i 0 * slice_index_or x j 0))
-    → slice_index_or (form_products x lower) k d ≡ plain_product q w
-unfolding form_products form_product plain_product
-form_product_at x lower k i j q w d long e h l is_q is_w =
-    let n : ℕ = length x in
-    let row : i < length x = in_row (length x) i j k e (omega arith) in
-    get_or-map (form_product (symmetric_of (length x) lower) x) (triangle_places (length x)) k (place 0 0) d (omega (arith, length-triangle_places (length x)))
-    ∙ ap (form_product (symmetric_of (length x) lower) x) (ap (λ (k : ℕ). slice_index_or (triangle_places (length x)) k (place 0 0)) e
-    ∙ triangle_place_at (length x) i j (place 0 0) row h)
-    ∙ ap₂ (λ (a : ℤ) (b : ℤ). plain_product a b)
-    (entry_lower (symmetric_of (length x) lower) i j h ∙ ap (λ (k : ℕ). slice_index_or lower k (pos 0)) (sym e) ∙ sym is_q)
-    (sym is_w)
-
 plain_ops : (s q w : ℤ) → product_ops s (plain_product q w) ≡ mul_op q w ∷ add_op s (q *ℤ w) ∷ []
 unfolding product_ops plain_product
 plain_ops s q w = refl
 
-pub form_refused : (x : List ℕ) (lower : List ℤ) (k i j : ℕ) (s q w : ℤ) (err : IntOp) → length lower ≡ triangle (length x) → k ≡ triangle i + j → j ≤ i
-    → k < length lower
-    → q ≡ slice_index_or lower k (pos 0) → w ≡ pos (multiplicity (record { row = i; column = j }) * (slice_index_or x i 0 * slice_index_or x j 0))
-    → answer is_owed (mul_op q w ∷ add_op s (q *ℤ w) ∷ []) (s +ℤ q *ℤ w) ≡ Err err → sum_answer (drop k (form_products x lower)) s ≡ Err err
-unfolding plain_product
-form_refused x lower k i j s q w err long e h l is_q is_w refused =
-    sum_refused (form_products x lower) k s (plain_product q w) (plain_product q w) err (omega (arith, length-form_products x lower))
-    (form_product_at x lower k i j q w (plain_product q w) long e h l is_q is_w)
-    (ap (λ (ops : List IntOp). answer is_owed ops (s +ℤ q *ℤ w)) (plain_ops s q w) ∙ refused)
+-- place k is that of row i and column j, where q and w stand
+module _ (x : List ℕ) (lower : List ℤ) (k i j : ℕ) (s q w : ℤ) (long : length lower ≡ triangle (length x)) (e : k ≡ triangle i + j) (h : j ≤ i)
+    (l : k < length lower) (is_q : q ≡ slice_index_or lower k (pos 0))
+    (is_w : w ≡ pos (multiplicity (record { row = i; column = j }) * (slice_index_or x i 0 * slice_index_or x j 0))) where
+  form_product_at : (d : Product) → slice_index_or (form_products x lower) k d ≡ plain_product q w
+  unfolding form_products form_product plain_product
+  form_product_at d =
+      let n : ℕ = length x in
+      let row : i < length x = in_row (length x) i j k e (omega arith) in
+      get_or-map (form_product (symmetric_of (length x) lower) x) (triangle_places (length x)) k (place 0 0) d
+      (omega (arith, length-triangle_places (length x)))
+      ∙ ap (form_product (symmetric_of (length x) lower) x) (ap (λ (k : ℕ). slice_index_or (triangle_places (length x)) k (place 0 0)) e
+      ∙ triangle_place_at (length x) i j (place 0 0) row h)
+      ∙ ap₂ (λ (a : ℤ) (b : ℤ). plain_product a b)
+      (entry_lower (symmetric_of (length x) lower) i j h ∙ ap (λ (k : ℕ). slice_index_or lower k (pos 0)) (sym e) ∙ sym is_q)
+      (sym is_w)
 
-pub form_continues : (x : List ℕ) (lower : List ℤ) (k i j : ℕ) (s q w z : ℤ) → length lower ≡ triangle (length x) → k ≡ triangle i + j → j ≤ i
-    → k < length lower
-    → q ≡ slice_index_or lower k (pos 0) → w ≡ pos (multiplicity (record { row = i; column = j }) * (slice_index_or x i 0 * slice_index_or x j 0))
-    → answer is_owed (mul_op q w ∷ add_op s (q *ℤ w) ∷ []) (s +ℤ q *ℤ w) ≡ Ok z
-    → sum_answer (drop k (form_products x lower)) s ≡ sum_answer (drop (k + 1) (form_products x lower)) z
-unfolding plain_product
-form_continues x lower k i j s q w z long e h l is_q is_w done =
-    sum_continues (form_products x lower) k s (plain_product q w) (plain_product q w) z (omega (arith, length-form_products x lower))
-    (form_product_at x lower k i j q w (plain_product q w) long e h l is_q is_w)
-    (ap (λ (ops : List IntOp). answer is_owed ops (s +ℤ q *ℤ w)) (plain_ops s q w) ∙ done)
+  pub form_refused : (err : IntOp) → answer is_owed (mul_op q w ∷ add_op s (q *ℤ w) ∷ []) (s +ℤ q *ℤ w) ≡ Err err
+      → sum_answer (drop k (form_products x lower)) s ≡ Err err
+  unfolding plain_product
+  form_refused err refused =
+      sum_refused (form_products x lower) k s (plain_product q w) (plain_product q w) err (omega (arith, length-form_products x lower))
+      (form_product_at (plain_product q w))
+      (ap (λ (ops : List IntOp). answer is_owed ops (s +ℤ q *ℤ w)) (plain_ops s q w) ∙ refused)
+
+  pub form_continues : (z : ℤ) → answer is_owed (mul_op q w ∷ add_op s (q *ℤ w) ∷ []) (s +ℤ q *ℤ w) ≡ Ok z
+      → sum_answer (drop k (form_products x lower)) s ≡ sum_answer (drop (k + 1) (form_products x lower)) z
+  unfolding plain_product
+  form_continues z done =
+      sum_continues (form_products x lower) k s (plain_product q w) (plain_product q w) z (omega (arith, length-form_products x lower))
+      (form_product_at (plain_product q w))
+      (ap (λ (ops : List IntOp). answer is_owed ops (s +ℤ q *ℤ w)) (plain_ops s q w) ∙ done)
 
 pub form_ends : (x : List ℕ) (lower : List ℤ) (k : ℕ) (s : ℤ) → length lower ≡ triangle (length x) → length lower ≤ k
     → sum_answer (drop k (form_products x lower)) s ≡ Ok s

@@ -28,45 +28,43 @@ pub length-inner_products : (n : ℕ) (lower other : List ℤ) → length (inner
 unfolding inner_products
 length-inner_products n lower other = length-map (triangle_places n) (inner_product (symmetric_of n lower) (symmetric_of n other)) ∙ length-triangle_places n
 
-inner_product_at : (n : ℕ) (lower other : List ℤ) (k i j : ℕ) (q m t : ℤ) (d : Product) → length lower ≡ triangle n → k ≡ triangle i + j → j ≤ i
-    → k < length lower
-    → q ≡ slice_index_or lower k (pos 0) → t ≡ slice_index_or other k (pos 0) → m ≡ pos (multiplicity (record { row = i; column = j }))
-    → slice_index_or (inner_products n lower other) k d ≡ multiple q m t
-unfolding inner_products inner_product multiple
-inner_product_at n lower other k i j q m t d long e h l is_q is_t is_m =
-    let row : i < n = in_row n i j k e (omega arith) in
-    get_or-map (inner_product (symmetric_of n lower) (symmetric_of n other)) (triangle_places n) k (place 0 0) d (omega (arith, length-triangle_places n))
-    ∙ ap (inner_product (symmetric_of n lower) (symmetric_of n other)) (ap (λ (k : ℕ). slice_index_or (triangle_places n) k (place 0 0)) e
-    ∙ triangle_place_at n i j (place 0 0) row h)
-    ∙ ap₂ (λ (a : ℤ) (b : ℤ). multiple a (pos (multiplicity (place i j))) b)
-    (entry_lower (symmetric_of n lower) i j h ∙ ap (λ (k : ℕ). slice_index_or lower k (pos 0)) (sym e) ∙ sym is_q)
-    (entry_lower (symmetric_of n other) i j h ∙ ap (λ (k : ℕ). slice_index_or other k (pos 0)) (sym e) ∙ sym is_t)
-    ∙ ap (λ (m : ℤ). multiple q m t) (sym is_m)
-
 multiple_ops : (s q m t : ℤ) → product_ops s (multiple q m t) ≡ mul_op m t ∷ mul_op q (m *ℤ t) ∷ add_op s (q *ℤ (m *ℤ t)) ∷ []
 unfolding product_ops multiple
 multiple_ops s q m t = refl
 
-pub inner_refused : (n : ℕ) (lower other : List ℤ) (k i j : ℕ) (s q m t : ℤ) (err : IntOp) → length lower ≡ triangle n → k ≡ triangle i + j → j ≤ i
-    → k < length lower
-    → q ≡ slice_index_or lower k (pos 0) → t ≡ slice_index_or other k (pos 0) → m ≡ pos (multiplicity (record { row = i; column = j }))
-    → answer is_owed (mul_op m t ∷ mul_op q (m *ℤ t) ∷ add_op s (q *ℤ (m *ℤ t)) ∷ []) (s +ℤ q *ℤ (m *ℤ t)) ≡ Err err
-    → sum_answer (drop k (inner_products n lower other)) s ≡ Err err
-unfolding multiple
-inner_refused n lower other k i j s q m t err long e h l is_q is_t is_m refused =
-    sum_refused (inner_products n lower other) k s (multiple q m t) (multiple q m t) err (omega (arith, length-inner_products n lower other))
-    (inner_product_at n lower other k i j q m t (multiple q m t) long e h l is_q is_t is_m)
-    (ap (λ (ops : List IntOp). answer is_owed ops (s +ℤ q *ℤ (m *ℤ t))) (multiple_ops s q m t) ∙ refused)
+-- place k is that of row i and column j, where q and t stand
+module _ (n : ℕ) (lower other : List ℤ) (k i j : ℕ) (s q m t : ℤ) (long : length lower ≡ triangle n) (e : k ≡ triangle i + j) (h : j ≤ i)
+    (l : k < length lower) (is_q : q ≡ slice_index_or lower k (pos 0)) (is_t : t ≡ slice_index_or other k (pos 0))
+    (is_m : m ≡ pos (multiplicity (record { row = i; column = j }))) where
+  inner_product_at : (d : Product) → slice_index_or (inner_products n lower other) k d ≡ multiple q m t
+  unfolding inner_products inner_product multiple
+  inner_product_at d =
+      let row : i < n = in_row n i j k e (omega arith) in
+      get_or-map (inner_product (symmetric_of n lower) (symmetric_of n other)) (triangle_places n) k (place 0 0) d (omega (arith, length-triangle_places n))
+      ∙ ap (inner_product (symmetric_of n lower) (symmetric_of n other)) (ap (λ (k : ℕ). slice_index_or (triangle_places n) k (place 0 0)) e
+      ∙ triangle_place_at n i j (place 0 0) row h)
+      ∙ ap₂ (λ (a : ℤ) (b : ℤ). multiple a (pos (multiplicity (place i j))) b)
+      (entry_lower (symmetric_of n lower) i j h ∙ ap (λ (k : ℕ). slice_index_or lower k (pos 0)) (sym e) ∙ sym is_q)
+      (entry_lower (symmetric_of n other) i j h ∙ ap (λ (k : ℕ). slice_index_or other k (pos 0)) (sym e) ∙ sym is_t)
+      ∙ ap (λ (m : ℤ). multiple q m t) (sym is_m)
 
-pub inner_continues : (n : ℕ) (lower other : List ℤ) (k i j : ℕ) (s q m t z : ℤ) → length lower ≡ triangle n → k ≡ triangle i + j → j ≤ i → k < length lower
-    → q ≡ slice_index_or lower k (pos 0) → t ≡ slice_index_or other k (pos 0) → m ≡ pos (multiplicity (record { row = i; column = j }))
-    → answer is_owed (mul_op m t ∷ mul_op q (m *ℤ t) ∷ add_op s (q *ℤ (m *ℤ t)) ∷ []) (s +ℤ q *ℤ (m *ℤ t)) ≡ Ok z
-    → sum_answer (drop k (inner_products n lower other)) s ≡ sum_answer (drop (k + 1) (inner_products n lower other)) z
-unfolding multiple
-inner_continues n lower other k i j s q m t z long e h l is_q is_t is_m done =
-    sum_continues (inner_products n lower other) k s (multiple q m t) (multiple q m t) z (omega (arith, length-inner_products n lower other))
-    (inner_product_at n lower other k i j q m t (multiple q m t) long e h l is_q is_t is_m)
-    (ap (λ (ops : List IntOp). answer is_owed ops (s +ℤ q *ℤ (m *ℤ t))) (multiple_ops s q m t) ∙ done)
+  pub inner_refused : (err : IntOp)
+      → answer is_owed (mul_op m t ∷ mul_op q (m *ℤ t) ∷ add_op s (q *ℤ (m *ℤ t)) ∷ []) (s +ℤ q *ℤ (m *ℤ t)) ≡ Err err
+      → sum_answer (drop k (inner_products n lower other)) s ≡ Err err
+  unfolding multiple
+  inner_refused err refused =
+      sum_refused (inner_products n lower other) k s (multiple q m t) (multiple q m t) err (omega (arith, length-inner_products n lower other))
+      (inner_product_at (multiple q m t))
+      (ap (λ (ops : List IntOp). answer is_owed ops (s +ℤ q *ℤ (m *ℤ t))) (multiple_ops s q m t) ∙ refused)
+
+  pub inner_continues : (z : ℤ)
+      → answer is_owed (mul_op m t ∷ mul_op q (m *ℤ t) ∷ add_op s (q *ℤ (m *ℤ t)) ∷ []) (s +ℤ q *ℤ (m *ℤ t)) ≡ Ok z
+      → sum_answer (drop k (inner_products n lower other)) s ≡ sum_answer (drop (k + 1) (inner_products n lower other)) z
+  unfolding multiple
+  inner_continues z done =
+      sum_continues (inner_products n lower other) k s (multiple q m t) (multiple q m t) z (omega (arith, length-inner_products n lower other))
+      (inner_product_at (multiple q m t))
+      (ap (λ (ops : List IntOp). answer is_owed ops (s +ℤ q *ℤ (m *ℤ t))) (multiple_ops s q m t) ∙ done)
 
 pub inner_ends : (n : ℕ) (lower other : List ℤ) (k : ℕ) (s : ℤ) → length lower ≡ triangle n → length lower ≤ k
     → sum_answer (drop k (inner_products n lower other)) s ≡ Ok s

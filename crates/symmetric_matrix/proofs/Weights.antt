@@ -93,20 +93,25 @@ module _ {A : Type 0} (R : CommutativeRing A) where
   neg_of_int : (a : ℤ) → R.neg (R.of_int a) ≡ R.of_int (neg_ℤ a)
   neg_of_int a = R.neg_is_mul (R.of_int a) ∙ sym (R.of_int_mul (negsuc 0) a) ∙ ap R.of_int (neg_is_mul a)
 
-  weight-of_int : (n : ℕ) (q : ℕ → ℕ → ℤ) (r : Run) → weight_in R n (λ i j. R.of_int (q i j)) r ≡ R.of_int (start_weight n q r)
+  -- of whole numbers, by a map that keeps what is taken from them
+  pub weight-map : (f : ℤ → A) (n : ℕ) (q : ℕ → ℕ → ℤ) (r : Run) → f (pos 0) ≡ R.of_int (pos 0) → ((a b : ℤ) → minus R (f a) (f b) ≡ f (a +ℤ neg_ℤ b))
+      → ((a b : ℤ) → R.add (f a) (f b) ≡ f (a +ℤ b)) → weight_in R n (λ i j. f (q i j)) r ≡ f (start_weight n q r)
   unfolding weight_in start_weight
-  weight-of_int n q r =
-      let at : (i j : ℕ) → edged R n (λ i j. R.of_int (q i j)) i j ≡ R.of_int (framed (pos 0) n q i j) = λ i j. framed-map R.of_int (pos 0) n q i j in
-      let less : (a b : ℤ) → minus R (R.of_int a) (R.of_int b) ≡ R.of_int (a +ℤ neg_ℤ b) = λ a b. ap (λ w. R.add (R.of_int a) w) (neg_of_int b)
-      ∙ sym (R.of_int_add a (neg_ℤ b)) in
+  weight-map f n q r zero less more =
+      let at : (i j : ℕ) → edged R n (λ i j. f (q i j)) i j ≡ f (framed (pos 0) n q i j) =
+      λ i j. ap (λ w. framed w n (λ i j. f (q i j)) i j) (sym zero) ∙ framed-map f (pos 0) n q i j in
       let e : ℤ = framed (pos 0) n q (r.first + 1) (r.last + 1) in
-      let f : ℤ = framed (pos 0) n q r.first (r.last + 1) in
+      let d : ℤ = framed (pos 0) n q r.first (r.last + 1) in
       let g : ℤ = framed (pos 0) n q (r.first + 1) (r.last + 2) in
       let h : ℤ = framed (pos 0) n q r.first (r.last + 2) in
       corners_same R.add (minus R) r at
-      ∙ ap (λ w. R.add (minus R w (R.of_int g)) (R.of_int h)) (less e f)
-      ∙ ap (λ w. R.add w (R.of_int h)) (less (e +ℤ neg_ℤ f) g)
-      ∙ sym (R.of_int_add (e +ℤ neg_ℤ f +ℤ neg_ℤ g) h)
+      ∙ ap (λ w. R.add (minus R w (f g)) (f h)) (less e d)
+      ∙ ap (λ w. R.add w (f h)) (less (e +ℤ neg_ℤ d) g)
+      ∙ more (e +ℤ neg_ℤ d +ℤ neg_ℤ g) h
+
+  weight-of_int : (n : ℕ) (q : ℕ → ℕ → ℤ) (r : Run) → weight_in R n (λ i j. R.of_int (q i j)) r ≡ R.of_int (start_weight n q r)
+  weight-of_int n q r =
+      weight-map R.of_int n q r refl (λ a b. ap (λ w. R.add (R.of_int a) w) (neg_of_int b) ∙ sym (R.of_int_add a (neg_ℤ b))) (λ a b. sym (R.of_int_add a b))
 
   weight-mul : (n : ℕ) (c : A) (a : ℕ → ℕ → A) (r : Run) → weight_in R n (λ i j. R.mul c (a i j)) r ≡ R.mul c (weight_in R n a r)
   unfolding weight_in
@@ -159,20 +164,9 @@ ratio_plus p r d h =
     (ring (p ∷ r ∷ pos d ∷ []) ((v0 ⊗ v2 ⊕ v1 ⊗ v2) ⊗ v2) ((v0 ⊕ v1) ⊗ (v2 ⊗ v2)) refl)
 
 weight-ratio : (n : ℕ) (q : ℕ → ℕ → ℤ) (d : ℕ) (r : Run) → 0 < d → weight_in rational_ring n (λ i j. ratio (q i j) d) r ≡ ratio (start_weight n q r) d
-unfolding weight_in start_weight
 weight-ratio n q d r positive =
-    let at : (i j : ℕ) → edged rational_ring n (λ i j. ratio (q i j) d) i j ≡ ratio (framed (pos 0) n q i j) d =
-    λ i j. ap (λ w. framed w n (λ i j. ratio (q i j) d) i j) (sym (ratio_zero d positive)) ∙ framed-map (λ (z : ℤ). ratio z d) (pos 0) n q i j in
-    let less : (a b : ℤ) → ratio a d +ℚ neg_ℚ (ratio b d) ≡ ratio (a +ℤ neg_ℤ b) d = λ a b. ap (λ w. ratio a d +ℚ w) (neg-ratio b d positive)
-    ∙ ratio_plus a (neg_ℤ b) d positive in
-    let e : ℤ = framed (pos 0) n q (r.first + 1) (r.last + 1) in
-    let f : ℤ = framed (pos 0) n q r.first (r.last + 1) in
-    let g : ℤ = framed (pos 0) n q (r.first + 1) (r.last + 2) in
-    let h : ℤ = framed (pos 0) n q r.first (r.last + 2) in
-    corners_same (λ v w. v +ℚ w) (λ v w. v +ℚ neg_ℚ w) r at
-    ∙ ap (λ w. (w +ℚ neg_ℚ (ratio g d)) +ℚ ratio h d) (less e f)
-    ∙ ap (λ w. w +ℚ ratio h d) (less (e +ℤ neg_ℤ f) g)
-    ∙ ratio_plus (e +ℤ neg_ℤ f +ℤ neg_ℤ g) h d positive
+    weight-map rational_ring (λ z. ratio z d) n q r (ratio_zero d positive)
+    (λ a b. ap (λ w. ratio a d +ℚ w) (neg-ratio b d positive) ∙ ratio_plus a (neg_ℤ b) d positive) (λ a b. ratio_plus a b d positive)
 
 length_by_runs : (n : ℕ) → length (start_list n) ≡ run_count n
 length_by_runs n = ap length (start_list_is n) ∙ length-map (late_runs n n) (run_vector n)

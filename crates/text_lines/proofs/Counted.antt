@@ -8,6 +8,13 @@ use Rattle.text_lines.specs.Readings.{◌>>=◌, Many, first_line, many}
 unfoldable pub after_many : {X F : Type 0} → List X → Result (Many X) F → Result (Many X) F
 after_many front read = read >>= λ m. Ok (record { items = front ++ m.items; rest = m.rest })
 
+-- a loop that has read so many of n lines, from the old ones on
+pub record IsReading {X F : Type 0} (read : TextLine
+    → Result X F) (missing : F) (n index : ℕ) (front : List X) (old left : List TextLine) (old_end left_end : ℕ)
+    : Type 0 where
+  pub so_far : after_many front (many read missing (n - index) left) ≡ many read missing n old
+  pub end : left_end ≡ old_end
+
 pub many_none : {X F : Type 0} (front : List X) (read : Result (Many X) F) → front ≡ [] → after_many front read ≡ read
 unfolding after_many
 many_none front (Ok m) e = rw e refl

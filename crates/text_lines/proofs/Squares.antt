@@ -198,20 +198,25 @@ unfolding full triangle
 lower-full none n lower len = lower-full_from none lower n 0 n (omega arith) len
 
 -- ---- the test
+-- a row has an entry that isn't the mirrored one
+abbrev is_alike : {A : Type 0} → (A → A → Bool) → A → List (List A) → ℕ → ℕ → Bool
+is_alike same none rows i j = same (entry_at none rows i j) (entry_at none rows j i)
+
+abbrev is_unlike : {A : Type 0} → (A → A → Bool) → A → List (List A) → ℕ → Bool
+is_unlike same none rows i = not (list_all (λ j. is_alike same none rows i j) (range_with_len 0 i))
 
 pub alike-mirrored : {A : Type 0} (same : A → A → Bool) (none : A) (n : ℕ) (rows : List (List A)) → ((x y : A) → Decides (same x y) (x ≡ y)) → length rows ≡ n
     → first_unlike same none rows ≡ None → IsMirrored none n rows
 unfolding first_unlike mirrors IsMirrored
 alike-mirrored same none n rows decides len e i j lt left =
-    let passes = find-none (λ i. not (list_all (λ j. same (entry_at none rows i j) (entry_at none rows j i)) (range_with_len 0 i))) 0 (length rows) e i
-    (omega arith) (omega (arith, len)) in
+    let passes = find-none (λ i. is_unlike same none rows i) 0 (length rows) e i (omega arith) (omega (arith, len)) in
     (decides (entry_at none rows i j) (entry_at none rows j i)).0
-    (all-range (λ j. same (entry_at none rows i j) (entry_at none rows j i)) 0 i (not_false _ passes) j (omega arith) (omega arith))
+    (all-range (λ j. is_alike same none rows i j) 0 i (not_false _ passes) j (omega arith) (omega arith))
 
 pub mirrored-alike : {A : Type 0} (same : A → A → Bool) (none : A) (n : ℕ) (rows : List (List A)) → ((x y : A) → Decides (same x y) (x ≡ y)) → length rows ≡ n
     → IsMirrored none n rows → first_unlike same none rows ≡ None
 unfolding first_unlike mirrors IsMirrored
 mirrored-alike same none n rows decides len mirror =
-    none-find (λ i. not (list_all (λ j. same (entry_at none rows i j) (entry_at none rows j i)) (range_with_len 0 i))) 0 (length rows) (λ i low lt.
-    ap not (range-all (λ j. same (entry_at none rows i j) (entry_at none rows j i)) 0 i
+    none-find (λ i. is_unlike same none rows i) 0 (length rows) (λ i low lt.
+    ap not (range-all (λ j. is_alike same none rows i j) 0 i
     (λ j low left. (decides (entry_at none rows i j) (entry_at none rows j i)).1 (mirror i j (omega (arith, len)) (omega arith)))))

@@ -19,6 +19,15 @@ Extends-then xs ys zs h k =
     let e : take (length xs) (take (length ys) zs) ≡ take (length xs) zs = take-take (length xs) (length ys) zs (long xs ys h) in
     sym e ∙ ap (take (length xs)) k ∙ h
 
+-- ---- a loop that writes
+-- what stood there, with what is written after it
+pub record IsWriting (before now written : List ℕ) : Type 0 where
+  pub so_far : now ≡ before ++ written
+  pub kept : Extends before now
+
+pub still_kept : (before now written new : List ℕ) → IsWriting before now written → Extends now new → Extends before new
+still_kept before now written new w e = Extends-then before now new w.kept e
+
 -- ---- a column
 pub first_column : (column : ℕ) (word old new : List ℕ) → column ≡ 0 → new ≡ old ++ word → new ≡ old ++ spaced_word column word
 unfolding spaced_word

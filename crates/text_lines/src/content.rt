@@ -30,7 +30,10 @@ pub struct ContentLines<'a> {
 impl<'a> Model for ContentLines<'a> {
     ghost Value = { Content };
 
-    ghost view = { λ t. record { lines = content_from (t.passed + 1) (lines t.rest.now); end = t.passed + length (lines t.rest.now) + 1 } };
+    ghost view = { λ t. record {
+      lines = content_from (t.passed + 1) (lines t.rest.now);
+      end = t.passed + length (lines t.rest.now) + 1;
+    } };
 
     ghost invariant = { λ t. t.passed + length t.rest.now + 1 < 2 ^ 32 };
 }

@@ -1,5 +1,5 @@
 -- The scan of the pair rule.
-use Rattle.std.specs.Prelude.{◌≡◌, ℕ, zero, suc, ◌<◌, ◌≤◌, ◌+◌, ℤ, pos, ◌≤ℤ◌, ◌<ℤ◌, int_lt, FitsSigned, ltb, cond, Bool, true, false, Option, Some, None}
+use Rattle.std.specs.Prelude.{◌≡◌, ℕ, zero, suc, ◌<◌, ◌≤◌, ◌+◌, ◌-◌, ℤ, pos, ◌≤ℤ◌, ◌<ℤ◌, int_lt, FitsSigned, ltb, cond, Bool, true, false, Option, Some, None}
 use Rattle.std.specs.Int.{w64, w128}
 use Rattle.std.proofs.Common.{arith, to_z, of_z, sym, ◌∙◌, ap, ap₂, refl, subst}
 use Rattle.std.proofs.lemmas.Int.{ints, to_z-of_z}
@@ -67,6 +67,18 @@ row_more g i j b h =
     let t : ltb i j ≡ true = grind (arith, nat_tests) in
     ap (λ (w : ℕ). best_in_row g i w b) e ∙ ap (λ (w : Bool). cond w (lesser_pair g (best_in_row g i j b) i j) (best_in_row g i j b)) t
 
+-- ---- the best so far, and the pair that it names
+pub record IsBestSoFar (g : Matrix) (b : Best) (pair' : Option (ℕ × ℕ)) : Type 0 where
+  pub best : IsBestOf g b
+  pub pair : best_pair b ≡ pair'
+
+pub best_more : (g : Matrix) (b b' : Best) (z : ℤ) (i j : ℕ) (before : Option (ℕ × ℕ)) → b' ≡ better_best b z i j → z ≡ g i j → i < j
+    → IsBestSoFar g b (best_in_row g i j before) → IsBestSoFar g b' (best_in_row g i (j + 1) before)
+best_more g b b' z i j before is e l h = record {
+  best = subst (IsBestOf g) (sym is) (better_is_best g b z i j e h.best);
+  pair = ap best_pair is ∙ better_pair g b z i j e h.best ∙ ap (λ (o : Option (ℕ × ℕ)). lesser_pair g o i j) h.pair ∙ sym (row_more g i j before l);
+}
+
 pub rows_more : (g : Matrix) (n i : ℕ) → best_in_rows g n (i + 1) ≡ best_in_row g i n (best_in_rows g n i)
 rows_more g n i = let e : i + 1 ≡ suc i = omega arith in ap (best_in_rows g n) e
 
@@ -84,6 +96,10 @@ unfolding pair_of
 best_is_none c n b e f nonneg = pair_of_none c.size (shown_gram c)
     (ap (λ (w : ℕ). best_in_rows (shown_gram c) w w) (sym e) ∙ sym f
     ∙ ap (λ (w : Bool). cond w (Some (b.row, b.column)) None) (less_false b.value (pos 0) nonneg))
+
+-- generators that are named by the numbers from 1
+pub named_from_one : (n : ℕ) (g : Matrix) (i j : ℕ) → IsPair n g i j → IsPair n g (i + 1 - 1) (j + 1 - 1)
+named_from_one n g i j p = let a : i + 1 - 1 ≡ i = omega arith in let b : j + 1 - 1 ≡ j = omega arith in rw (a, b) p
 
 -- the test at the end
 pub tested_negative : (z : ℤ) → FitsSigned w128 z → int_lt (to_z w128 (of_z w128 z)) (pos 0) ≡ true → z <ℤ pos 0

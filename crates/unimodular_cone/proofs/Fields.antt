@@ -1,12 +1,12 @@
 -- What a cone's fields show.
 use Rattle.std.specs.Prelude.{◌≡◌, ◌⊎◌, ℕ, zero, suc, ◌<◌, ◌≤◌, ◌+◌, max, min, pos, List, [], ◌∷◌, take, map, slice_index_or}
-use Rattle.std.proofs.Common.{arith, sym, ◌∙◌, ap, refl, inl, inr}
+use Rattle.std.proofs.Common.{arith, sym, ◌∙◌, ap, ap₂, refl, inl, inr}
 use Rattle.commutative_ring.proofs.SmallCases.{at_least_or_below}
 use Rattle.exact_forms.specs.Triangles.{triangle}
 use Rattle.exact_forms.proofs.Triangles.{entry_in_below, entry_before}
 use Rattle.unimodular_cone.specs.declared.cone.Cone.TheInside.{Inside}
 use Rattle.unimodular_cone.specs.ConeFields.{shown_of}
-use Rattle.unimodular_cone.specs.Shown.{shown_gram, shown_coordinate}
+use Rattle.unimodular_cone.specs.Shown.{ShownCone, shown_gram, shown_coordinate}
 use Rattle.unimodular_cone.proofs.ShownLaws.{shown_gram_mirror}
 
 at-take : {A : Type 0} (xs : List A) (n k : ℕ) (none : A) → k < n → slice_index_or (take n xs) k none ≡ slice_index_or xs k none
@@ -50,6 +50,20 @@ gram_placed c i j li lj = by (at_least_or_below i j)
         let a : max i j ≡ j = omega arith in
         let b : min i j ≡ i = omega arith in
         rw (a, b) (sym (gram_shown c j i (omega arith) lj) ∙ shown_gram_mirror (shown_of c) j i)
+
+-- what a cone that is shown reads of the fields
+pub gram_read : (a : Inside) (c : ShownCone) (at i j : ℕ) → shown_of a ≡ c → at ≡ triangle (max i j) + min i j → i < c.size → j < c.size
+    → slice_index_or a.gram at (pos 0) ≡ shown_gram c i j
+gram_read a c at i j seen place li lj =
+    let size : a.n ≡ c.size = ap (λ (s : ShownCone). s.size) seen in
+    ap (λ (w : ℕ). slice_index_or a.gram w (pos 0)) place ∙ gram_placed a i j (omega arith) (omega arith) ∙ ap (λ (s : ShownCone). shown_gram s i j) seen
+
+pub coordinate_read : (a : Inside) (c : ShownCone) (at at' k p : ℕ) → shown_of a ≡ c → at ≡ k → at' ≡ p → k < c.size → p < c.size
+    → slice_index_or (slice_index_or a.generators at []) at' 0 ≡ shown_coordinate c k p
+coordinate_read a c at at' k p seen here there lk lp =
+    let size : a.n ≡ c.size = ap (λ (s : ShownCone). s.size) seen in
+    sym (coordinate_shown a at at' (omega arith) (omega arith)) ∙ ap (λ (s : ShownCone). shown_coordinate s at at') seen
+    ∙ ap₂ (λ (x : ℕ) (y : ℕ). shown_coordinate c x y) here there
 
 pub triangle_8 : triangle 8 ≡ 36
 unfolding triangle

@@ -30,3 +30,5 @@ pub mod NarrowParts
 pub mod NarrowChildren
 pub mod NarrowRoots
 pub mod NarrowReplaced
+pub mod ShallowCoordinates
+pub mod Tops

@@ -99,39 +99,40 @@ module _ (c : ShownCone) (r s : ℕ) (xs : List ℕ) (row : List ℤ) (m : AreMe
   fits_with none rest (Gram (suc a) zero) over = over
   fits_with none rest (Gram (suc a) (suc b)) (la, le, over) = let lb : b < c.size = omega arith in product_fits a b la lb (λ e. rest b lb) (λ e. rest a la) over
 
+  abbrev IsOver : WideEntry → Type 0
+  IsOver = IsOverLimit c.size (child (shown_generators c) r s) (child_gram (shown_gram c) r s)
+
+  -- no entry before a Gram entry is over its limit, where no Gram entry before it is
+  none_before : NoWideCoordinate → (i j : ℕ)
+      → ((a b : ℕ) → StandsBefore (Gram (suc a) (suc b)) (Gram (suc i) (suc j)) → IsOver (Gram (suc a) (suc b)) → ⊥)
+      → (other : WideEntry) → StandsBefore other (Gram (suc i) (suc j)) → ¬ IsOver other
+  none_before none i j grams (Coordinate a b) before over = no_coordinate none a b over
+  none_before none i j grams (Gram zero b) before over = over
+  none_before none i j grams (Gram (suc a) zero) before over = over
+  none_before none i j grams (Gram (suc a) (suc b)) before over = grams a b before over
+
   -- in the mediant's row, and in its column
   in_row : NoWideCoordinate → (k : ℕ) → k ≤ r → HoldsFirstAt c.size (λ k. 2 ^ 100 < nat_abs (slice_index_or row k (pos 0))) k
       → IsFirstOverWith c r s (Gram (suc r) (suc k))
   in_row none k le h = record {
     over = (m.first, le, subst (λ (z : ℤ). 2 ^ 100 < nat_abs z) (sym (entry_is k h.range)) h.holds);
-    first = first;
+    first = none_before none r k grams;
   }
     where
-      first : (other : WideEntry) → StandsBefore other (Gram (suc r) (suc k))
-          → ¬ IsOverLimit c.size (child (shown_generators c) r s) (child_gram (shown_gram c) r s) other
-      first (Coordinate a b) before over = no_coordinate none a b over
-      first (Gram zero b) before over = over
-      first (Gram (suc a) zero) before over = over
-      first (Gram (suc a) (suc b)) (inl before) (la, lb, over) = product_fits a b la (omega arith) (λ e. absurd (omega arith)) (λ e. absurd (omega arith)) over
-      first (Gram (suc a) (suc b)) (inr (f, before)) (la, lb, over) =
-          product_fits a b la (omega arith) (λ e. h.first b (omega arith)) (λ e. absurd (omega arith)) over
+      grams : (a b : ℕ) → StandsBefore (Gram (suc a) (suc b)) (Gram (suc r) (suc k)) → IsOver (Gram (suc a) (suc b)) → ⊥
+      grams a b (inl before) (la, lb, over) = product_fits a b la (omega arith) (λ e. absurd (omega arith)) (λ e. absurd (omega arith)) over
+      grams a b (inr (f, before)) (la, lb, over) = product_fits a b la (omega arith) (λ e. h.first b (omega arith)) (λ e. absurd (omega arith)) over
 
   in_column : NoWideCoordinate → (k : ℕ) → r < k → HoldsFirstAt c.size (λ k. 2 ^ 100 < nat_abs (slice_index_or row k (pos 0))) k
       → IsFirstOverWith c r s (Gram (suc k) (suc r))
   in_column none k lt h = record {
     over = (h.range, (omega arith), subst (λ (z : ℤ). 2 ^ 100 < nat_abs z) (sym (mirrored_is k h.range)) h.holds);
-    first = first;
+    first = none_before none k r grams;
   }
     where
-      first : (other : WideEntry) → StandsBefore other (Gram (suc k) (suc r))
-          → ¬ IsOverLimit c.size (child (shown_generators c) r s) (child_gram (shown_gram c) r s) other
-      first (Coordinate a b) before over = no_coordinate none a b over
-      first (Gram zero b) before over = over
-      first (Gram (suc a) zero) before over = over
-      first (Gram (suc a) (suc b)) (inl before) (la, lb, over) =
-          product_fits a b la (omega arith) (λ e. h.first b (omega arith)) (λ e. h.first a (omega arith)) over
-      first (Gram (suc a) (suc b)) (inr (f, before)) (la, lb, over) =
-          product_fits a b la (omega arith) (λ e. absurd (omega arith)) (λ e. absurd (omega arith)) over
+      grams : (a b : ℕ) → StandsBefore (Gram (suc a) (suc b)) (Gram (suc k) (suc r)) → IsOver (Gram (suc a) (suc b)) → ⊥
+      grams a b (inl before) (la, lb, over) = product_fits a b la (omega arith) (λ e. h.first b (omega arith)) (λ e. h.first a (omega arith)) over
+      grams a b (inr (f, before)) (la, lb, over) = product_fits a b la (omega arith) (λ e. absurd (omega arith)) (λ e. absurd (omega arith)) over
 
   pub first_at_product : NoWideCoordinate → (k : ℕ) → HoldsFirstAt c.size (λ k. 2 ^ 100 < nat_abs (slice_index_or row k (pos 0))) k
       → IsFirstOverWith c r s (wide_gram r k)

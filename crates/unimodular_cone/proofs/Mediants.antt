@@ -1,5 +1,5 @@
 -- The numbers of a mediant as loops make them.
-use Rattle.std.specs.Prelude.{◌≡◌, ◌≢◌, ◌⊎◌, ℕ, ◌<◌, ◌≤◌, ◌+◌, ◌^◌, ℤ, pos, ◌+ℤ◌, nat_abs, FitsSigned, List, length, slice_index_or, slice_set}
+use Rattle.std.specs.Prelude.{◌≡◌, ◌≢◌, ◌⊎◌, ℕ, ◌<◌, ◌≤◌, ◌^◌, ℤ, pos, ◌+ℤ◌, nat_abs, FitsSigned, List, length, slice_index_or, slice_set}
 use Rattle.std.specs.Int.{w128}
 use Rattle.std.proofs.Common.{arith, to_z, of_z, sym, ◌∙◌, ap, inl, inr, get_or-set_other, get_or-set_same}
 use Rattle.std.proofs.lemmas.Int.{ints, to_z-of_z}

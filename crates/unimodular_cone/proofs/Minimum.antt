@@ -1,11 +1,12 @@
 -- Found implies the minimum, Copositive implies copositive.
-use Rattle.std.specs.Prelude.{◌≡◌, ◌≢◌, ℕ, zero, suc, ◌<◌, ◌≤◌, ℤ, pos, negsuc, ◌≤ℤ◌, nat_abs, ◌⊎◌, Some, None, List, [], length}
+use Rattle.std.specs.Prelude.{◌≡◌, ℕ, zero, suc, ◌<◌, ◌≤◌, ℤ, pos, negsuc, ◌≤ℤ◌, nat_abs, ◌⊎◌, Some, None, List, length}
 use Rattle.std.proofs.Common.{arith, sym, ◌∙◌, inl, inr, subst}
 use Rattle.std.proofs.lemmas.Int.{ints}
 use Rattle.std.specs.List.{Contains}
 use Rattle.commutative_ring.proofs.SmallCases.{same_or_below}
 use Rattle.exact_forms.specs.Forms.{form, IsSymmetric}
 use Rattle.exact_forms.specs.Slacks.{AreNonnegative}
+use Rattle.exact_forms.proofs.Lists.{nothing_in}
 use Rattle.unimodular_cone.specs.Paths.{Path, IsAbove}
 use Rattle.unimodular_cone.specs.Cones.{Matrix, gram, value, cone_at, pair_of}
 use Rattle.unimodular_cone.specs.Tree.{Mode, Sign, Least, CanSplit, IsInTree, IsLowValue, IsLow, IsClosedAt, IsFinalBound, HasWideChild}
@@ -85,7 +86,7 @@ copositive_is n q d s (_, a) x size =
     let r = lies_in_closed Sign n q d (pos 0) s a (coordinate x) (nonneg_place n x) in
     closed_nonnegative n q (cone_at n q r.path) (coordinate x) s r.stops r.lies
 
-nonzero_vector : (n : ℕ) (x : List ℕ) (v : ℕ → ℤ) → IsListOf n x v → IsNonzeroBelow n v → IsNonzero n x
+pub nonzero_vector : (n : ℕ) (x : List ℕ) (v : ℕ → ℤ) → IsListOf n x v → IsNonzeroBelow n v → IsNonzero n x
 nonzero_vector n x v h (p, lp, ne) = (p, lp, λ e. ne (sym (h.same p lp) ∙ e))
 
 pub not_low_Least : (z : ℤ) → (¬ IsLowValue Least z) → pos 1 ≤ℤ z
@@ -93,40 +94,35 @@ not_low_Least (pos zero) h = absurd (h (omega (arith, ints)))
 not_low_Least (pos (suc n)) h = omega (arith, ints)
 not_low_Least (negsuc n) h = absurd (h (omega (arith, ints)))
 
-empty_contains : (x : List ℕ) → ¬ Contains [] x
-empty_contains x (k, l, e) = omega arith
+-- ---- the bound of a closed answer is the copositive minimum
+module _ (n : ℕ) (q : Matrix) (d : ℕ) (b : ℤ) (s : IsSymmetric n q) (a : IsClosedAnswer Least n q d b) where
+  pub bound_positive : pos 1 ≤ℤ b
+  bound_positive =
+      let r = a.is_bound.attained in subst (λ (z : ℤ). pos 1 ≤ℤ z) r.4 (not_low_Least _ (λ h. a.clear.none_low r.0 r.2 (r.1, r.3, h)))
+
+  pub bound_least : (x : List ℕ) → length x ≡ n → IsNonzero n x → b ≤ℤ form n q (coordinate x)
+  bound_least x size nonzero =
+      let p : pos 1 ≤ℤ b = bound_positive in
+      let r = lies_in_closed Least n q d b s a (coordinate x) (nonneg_place n x) in
+      closed_at_least n q (cone_at n q r.path) b (coordinate x) s (omega (arith, ints)) r.stops r.lies nonzero
+
+  pub bound_attained : (x : List ℕ) × Attains n q b x
+  bound_attained =
+      let r = a.is_bound.attained in
+      let v : ℕ → ℤ = cone_at n q r.0 r.1 in
+      let x : List ℕ = listed n (λ p. nat_abs (v p)) in
+      let h : IsListOf n x v = as_vector n v ((proper n q r.0).nonnegative r.1 r.3) in
+      let nonzero : IsNonzero n x = nonzero_vector n x v h ((proper n q r.0).nonzero r.1 r.3) in
+      (x, record { size = h.size; nonzero = nonzero; value = value_same n q (coordinate x) v h.same ∙ r.4 })
 
 pub minimum_is : (n : ℕ) (q : Matrix) (d : ℕ) (b : ℤ) (vectors : List (List ℕ)) → IsSymmetric n q → IsSearchAnswer Least n q d (Found b vectors)
     → IsMinimum n q b vectors
 minimum_is n q d b vectors s (_, a, lists) = record {
-  positive = positive;
-  least = least;
-  some = some a.is_bound.attained;
+  positive = bound_positive n q d b s a;
+  least = bound_least n q d b s a;
+  some = λ none. let r = bound_attained n q d b s a in nothing_in r.0 (subst (λ (w : List (List ℕ)). Contains w r.0) none (lists.all r.0 r.1));
   lists = lists;
 }
-  where
-    positive : pos 1 ≤ℤ b
-    positive = by a.is_bound.attained
-      where
-        by : ((path : Path) × (k : ℕ) × IsInTree n q d path × (k < n) × (value n q (cone_at n q path) k ≡ b)) → pos 1 ≤ℤ b
-        by (path, k, t, l, e) = subst (λ (z : ℤ). pos 1 ≤ℤ z) e (not_low_Least _ (λ h. a.clear.none_low path t (k, l, h)))
-
-    nonneg_b : pos 0 ≤ℤ b
-    nonneg_b = let p : pos 1 ≤ℤ b = positive in omega (arith, ints)
-
-    least : (x : List ℕ) → length x ≡ n → IsNonzero n x → b ≤ℤ form n q (coordinate x)
-    least x size nonzero =
-        let r = lies_in_closed Least n q d b s a (coordinate x) (nonneg_place n x) in
-        closed_at_least n q (cone_at n q r.path) b (coordinate x) s nonneg_b r.stops r.lies nonzero
-
-    some : ((path : Path) × (k : ℕ) × IsInTree n q d path × (k < n) × (value n q (cone_at n q path) k ≡ b)) → vectors ≢ []
-    some (path, k, t, l, e) none =
-        let v : ℕ → ℤ = cone_at n q path k in
-        let x : List ℕ = listed n (λ p. nat_abs (v p)) in
-        let h : IsListOf n x v = as_vector n v ((proper n q path).nonnegative k l) in
-        let attains : Attains n q b x =
-        record { size = h.size; nonzero = nonzero_vector n x v h ((proper n q path).nonzero k l); value = value_same n q (coordinate x) v h.same ∙ e } in
-        empty_contains x (subst (λ (w : List (List ℕ)). Contains w x) none (lists.all x attains))
 
 pub low_is : (m : Mode) (n : ℕ) (q : Matrix) (d : ℕ) (x : List ℕ) (z : ℤ) (path : Path) → IsSearchAnswer m n q d (Low x z path) → IsLowVector m n q x z
 low_is m n q d x z path a = record {

@@ -1,6 +1,6 @@
 -- The children of a narrow cone: their Gram entries are within the limit of any cone's, and narrow where the mediant's are.
-use Rattle.std.specs.Prelude.{◌≡◌, ◌≢◌, ◌⊎◌, ℕ, zero, suc, ◌<◌, ◌≤◌, ◌+◌, ◌^◌, ℤ, pos, ◌+ℤ◌, nat_abs, List, [], ◌∷◌, slice_index_or}
-use Rattle.std.proofs.Common.{arith, sym, ◌∙◌, ap, refl, inl, inr}
+use Rattle.std.specs.Prelude.{◌≡◌, ◌≢◌, ◌⊎◌, ℕ, zero, suc, ◌<◌, ◌≤◌, ◌^◌, ℤ, pos, ◌+ℤ◌, nat_abs, List, [], ◌∷◌, slice_index_or}
+use Rattle.std.proofs.Common.{arith, refl, inl, inr}
 use Rattle.std.proofs.lemmas.Int.{ints}
 use Rattle.exact_forms.proofs.Slacks.{same_or_not}
 use Rattle.unimodular_cone.specs.Cones.{child_gram}
@@ -40,7 +40,7 @@ module _ (c : ShownCone) (r s : ℕ) (lr : r < c.size) (ls : s < c.size) where
   wider : (a : ℤ) (k : ℕ) → nat_abs a ≤ k → k ≤ 2 ^ 100 → nat_abs a ≤ 2 ^ 100
   wider a k h l = omega arith
 
-  child_within : HasNarrowGram c → (i j : ℕ) → i < c.size → j < c.size → nat_abs (child_gram (shown_gram c) r s i j) ≤ 2 ^ 100
+  pub child_within : HasNarrowGram c → (i j : ℕ) → i < c.size → j < c.size → nat_abs (child_gram (shown_gram c) r s i j) ≤ 2 ^ 100
   child_within narrow = each_entry (λ z. nat_abs z ≤ 2 ^ 100)
       (λ k l. wider (shown_gram c r k +ℤ shown_gram c s k) (2 ^ 60) (product k l) (omega arith))
       (four (shown_gram c r r +ℤ shown_gram c s r) (shown_gram c r s +ℤ shown_gram c s s) (product r lr) (product s ls))

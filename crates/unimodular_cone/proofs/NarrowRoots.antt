@@ -2,9 +2,10 @@
 use Rattle.std.specs.Prelude.{◌⊎◌, ℕ, zero, suc, ◌<◌, ◌≤◌, ◌^◌, ℤ, pos, ◌<ℤ◌, nat_abs, List, Bool, true, false, cond, eqb}
 use Rattle.std.proofs.Common.{arith, inl, inr}
 use Rattle.std.proofs.lemmas.Int.{ints}
+use Rattle.commutative_ring.proofs.SmallCases.{at_least_or_below}
 use Rattle.symmetric_matrix.specs.Symmetric.{Symmetric, entry, IsSymmetricMatrix}
 use Rattle.symmetric_matrix.proofs.Places.{entry_flip}
-use Rattle.unimodular_cone.specs.Cones.{unit_vectors, FitsLimits, WideEntry, Coordinate, Gram}
+use Rattle.unimodular_cone.specs.Cones.{unit_vectors, FitsLimits, Coordinate, Gram}
 use Rattle.unimodular_cone.specs.ConeFields.{shown_of}
 use Rattle.unimodular_cone.specs.Narrow.{HasNarrowGram, IsNarrowMatrix}
 use Rattle.unimodular_cone.specs.RootNumbers.{IsLowerOf, AreUnitRows}
@@ -30,11 +31,8 @@ narrow_fits q narrow (Gram (suc i) (suc j)) (li, le, over) = not_both (nat_abs (
 
 pub root_is_narrow : (q : Symmetric) (lower : List ℤ) (rows : List (List ℕ)) (m : IsSymmetricMatrix q) (h : IsLowerOf q q.size lower) (u : AreUnitRows 8 rows)
     → IsNarrowMatrix q → HasNarrowGram (shown_of (start q lower rows m h u))
-root_is_narrow q lower rows m h u narrow i j li lj = rw (entry_is q lower rows m h u i j li lj) (by (order i j))
+root_is_narrow q lower rows m h u narrow i j li lj = rw (entry_is q lower rows m h u i j li lj) (by (at_least_or_below i j))
   where
-    order : (i j : ℕ) → (j ≤ i) ⊎ (i < j)
-    order i j = grind arith
-
     by : ((j ≤ i) ⊎ (i < j)) → nat_abs (entry q i j) ≤ 2 ^ 59
     by (inl le) = narrow i j le li
     by (inr lt) = rw (entry_flip q i j) (narrow j i (omega arith) lj)

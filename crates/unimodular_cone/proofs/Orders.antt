@@ -1,10 +1,18 @@
 -- The orders of paths, and what stands above a path.
-use Rattle.std.specs.Prelude.{◌≡◌, ℕ, zero, suc, ◌<◌, true, false, [], ◌∷◌, length, ◌++◌, take}
+use Rattle.std.specs.Prelude.{◌≡◌, ℕ, zero, suc, ◌<◌, Bool, true, false, [], ◌∷◌, length, ◌++◌, take}
 use Rattle.std.specs.Ordering.{MatchOrdering}
 use Rattle.std.specs.declared.cmp.Ordering.{Ordering}
 use Rattle.std.specs.declared.cmp.Ordering.TheVariants.{Less, Equal, Greater}
 use Rattle.std.proofs.Common.{arith, sym, ◌∙◌, ap, refl}
 use Rattle.unimodular_cone.specs.Paths.{Path, IsAbove, IsNoLater, place_order}
+
+-- a digit that both paths begin with
+after_digit : (s : Bool) (p r : Path) (o : Ordering)
+    → MatchOrdering o (IsNoLater p r × (¬ IsNoLater r p)) (p ≡ r) (IsNoLater r p × (¬ IsNoLater p r))
+    → MatchOrdering o (IsNoLater p r × (¬ IsNoLater r p)) (◌≡◌ {A = Path} (s ∷ p) (s ∷ r)) (IsNoLater r p × (¬ IsNoLater p r))
+after_digit s p r Less h = h
+after_digit s p r Equal h = ap (λ (w : Path). s ∷ w) h
+after_digit s p r Greater h = h
 
 -- what an answer of the order by place says
 pub place_order_is : (p r : Path) → MatchOrdering (place_order p r) (IsNoLater p r × (¬ IsNoLater r p)) (p ≡ r) (IsNoLater r p × (¬ IsNoLater p r))
@@ -12,22 +20,10 @@ unfolding place_order
 place_order_is [] [] = refl
 place_order_is [] (s ∷ r) = (tt, λ h. h)
 place_order_is (s ∷ p) [] = (tt, λ h. h)
-place_order_is (false ∷ p) (false ∷ r) = more (place_order p r) (place_order_is p r)
-  where
-    more : (o : Ordering) → MatchOrdering o (IsNoLater p r × (¬ IsNoLater r p)) (p ≡ r) (IsNoLater r p × (¬ IsNoLater p r))
-        → MatchOrdering o (IsNoLater p r × (¬ IsNoLater r p)) (◌≡◌ {A = Path} (false ∷ p) (false ∷ r)) (IsNoLater r p × (¬ IsNoLater p r))
-    more Less h = h
-    more Equal h = ap (λ (w : Path). false ∷ w) h
-    more Greater h = h
+place_order_is (false ∷ p) (false ∷ r) = after_digit false p r (place_order p r) (place_order_is p r)
 place_order_is (false ∷ p) (true ∷ r) = (tt, λ h. h)
 place_order_is (true ∷ p) (false ∷ r) = (tt, λ h. h)
-place_order_is (true ∷ p) (true ∷ r) = more (place_order p r) (place_order_is p r)
-  where
-    more : (o : Ordering) → MatchOrdering o (IsNoLater p r × (¬ IsNoLater r p)) (p ≡ r) (IsNoLater r p × (¬ IsNoLater p r))
-        → MatchOrdering o (IsNoLater p r × (¬ IsNoLater r p)) (◌≡◌ {A = Path} (true ∷ p) (true ∷ r)) (IsNoLater r p × (¬ IsNoLater p r))
-    more Less h = h
-    more Equal h = ap (λ (w : Path). true ∷ w) h
-    more Greater h = h
+place_order_is (true ∷ p) (true ∷ r) = after_digit true p r (place_order p r) (place_order_is p r)
 
 pub no_later_self : (p : Path) → IsNoLater p p
 no_later_self [] = tt

@@ -1,7 +1,7 @@
 -- The numbers of a child, made from its parent's.
-use Rattle.std.specs.Prelude.{◌≡◌, ◌≢◌, ◌⊎◌, ℕ, ◌<◌, ◌≤◌, ◌+◌, ℤ, pos, ◌+ℤ◌, List, [], length, slice_index_or, slice_set}
+use Rattle.std.specs.Prelude.{◌≡◌, ◌≢◌, ◌⊎◌, ℕ, ◌<◌, ◌≤◌, ◌+◌, max, min, ℤ, pos, ◌+ℤ◌, Bool, List, [], ◌∷◌, ◌++◌, length, slice_index_or, slice_set}
 use Rattle.std.specs.Int.{w128}
-use Rattle.std.proofs.Common.{arith, to_z, of_z, sym, ◌∙◌, ap, ap₂, refl, inl, inr, subst, get_or-set_other, get_or-set_same}
+use Rattle.std.proofs.Common.{arith, to_z, of_z, sym, ◌∙◌, ap, ap₂, refl, inl, inr, subst, get_or-set_other, get_or-set_same, length-append}
 use Rattle.commutative_ring.proofs.SmallCases.{at_least_or_below, same_or_not}
 use Rattle.exact_forms.specs.Triangles.{triangle}
 use Rattle.exact_forms.proofs.Slacks.{replaced_here, replaced_other}
@@ -99,6 +99,26 @@ pub record IsPlaced (a : Inside) (r s at here there : ℕ) (products new : List 
   pub here_is : here ≡ r
   pub there_is : there ≡ s
 
+corner_place : (r : ℕ) → triangle (max r r) + min r r ≡ triangle r + r
+corner_place r = let a : max r r ≡ r = omega arith in let b : min r r ≡ r = omega arith in rw (a, b)
+
+-- of the cone that the numbers show
+pub placed_of : (a : Inside) (c : ShownCone) (r s at here there : ℕ) (products new : List ℤ) → shown_of a ≡ c → IsWithinLimits (shown_of a) → r < c.size
+    → s < c.size → AreProducts c r s products → IsRowSet a.n r a.gram products new → at ≡ triangle (max r r) + min r r → here ≡ r → there ≡ s
+    → IsPlaced a r s at here there products new
+placed_of a c r s at here there products new seen within lr ls h set place is is' =
+    let size : a.n ≡ c.size = ap (λ (x : ShownCone). x.size) seen in
+    record {
+      within = within;
+      first = omega arith;
+      second = omega arith;
+      products_are = subst (λ (x : ShownCone). AreProducts x r s products) (sym seen) h;
+      set = set;
+      place = place ∙ corner_place r;
+      here_is = is;
+      there_is = is';
+    }
+
 abbrev pub written : List ℤ → List ℤ → ℕ → ℕ → ℤ
 written products new at there =
     to_z w128 (of_z w128 (to_z w128 (of_z w128 (slice_index_or new at (pos 0))) +ℤ to_z w128 (of_z w128 (slice_index_or products there (pos 0)))))
@@ -122,3 +142,13 @@ module _ (a : Inside) (r s at here there : ℕ) (products new : List ℤ) (g : I
 
 pub child_as : (a c d : ShownCone) (r s : ℕ) (path path' : Path) → a ≡ c → path ≡ path' → IsChildWith a r s path d → IsChildWith c r s path' d
 child_as a c d r s path path' e f h = subst (λ (x : ShownCone). IsChildWith x r s path' d) e (subst (λ (p : Path). IsChildWith a r s p d) f h)
+
+-- the path with one more digit, as the cone that the numbers show has it
+pub child_after : (a c d : ShownCone) (r s : ℕ) (digit : Bool) (path : Path) → a ≡ c → path ≡ a.path ++ digit ∷ [] → IsChildWith a r s path d
+    → IsChildWith c r s (c.path ++ digit ∷ []) d
+child_after a c d r s digit path e f = child_as a c d r s path (c.path ++ digit ∷ []) e (f ∙ ap (λ (x : ShownCone). x.path ++ digit ∷ []) e)
+
+pub still_short : (a c : ShownCone) (digit : Bool) (path : Path) → a ≡ c → path ≡ a.path ++ digit ∷ [] → length c.path < 200 → length path ≤ 200
+still_short a c digit path e f short =
+    let same : length a.path ≡ length c.path = ap (λ (x : ShownCone). length x.path) e in
+    omega (arith, ap length f, length-append a.path (digit ∷ []))

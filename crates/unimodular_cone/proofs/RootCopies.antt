@@ -1,7 +1,7 @@
 -- The numbers of the root's cone as loops make them, and what they show.
-use Rattle.std.specs.Prelude.{◌≡◌, ◌≢◌, ◌⊎◌, ℕ, ◌<◌, ◌≤◌, ◌+◌, ℤ, pos, FitsSigned, List, length, slice_index_or, slice_set}
+use Rattle.std.specs.Prelude.{◌≡◌, ◌≢◌, ◌⊎◌, ℕ, ◌<◌, ◌≤◌, ◌+◌, ◌-◌, max, min, ℤ, pos, FitsSigned, List, length, slice_index_or, slice_set}
 use Rattle.std.specs.Int.{w128}
-use Rattle.std.proofs.Common.{arith, to_z, of_z, sym, ◌∙◌, ap, inl, inr, get_or-set_other, get_or-set_same, length-set}
+use Rattle.std.proofs.Common.{arith, to_z, of_z, sym, ◌∙◌, ap, ap₂, inl, inr, get_or-set_other, get_or-set_same, length-set}
 use Rattle.std.proofs.lemmas.Int.{ints, to_z-of_z}
 use Rattle.commutative_ring.proofs.SmallCases.{before_or_here}
 use Rattle.exact_forms.specs.Triangles.{triangle}
@@ -13,6 +13,15 @@ use Rattle.unimodular_cone.proofs.Fields.{place_below}
 -- a number of the matrix that was read
 narrow_back : (z y : ℤ) → z ≡ y → FitsInt z → to_z w128 (of_z w128 z) ≡ y
 narrow_back z y e narrow = let f : FitsSigned w128 z = omega (arith, ints) in to_z-of_z w128 z f ∙ e
+
+-- the place of an entry of the lower triangle, and the entry under the numbers from 1
+pub placed_below : (i k at : ℕ) → k ≤ i → at ≡ triangle (max i k) + min i k → at ≡ triangle i + k
+placed_below i k at le e =
+    let a : max i k ≡ i = omega arith in let b : min i k ≡ k = omega arith in e ∙ ap₂ (λ (x : ℕ) (y : ℕ). triangle x + y) a b
+
+pub entry_from_one : (q : Symmetric) (i k : ℕ) (z : ℤ) → z ≡ entry q (i + 1 - 1) (k + 1 - 1) → z ≡ entry q i k
+entry_from_one q i k z e =
+    let a : i + 1 - 1 ≡ i = omega arith in let b : k + 1 - 1 ≡ k = omega arith in e ∙ ap₂ (λ (x : ℕ) (y : ℕ). entry q x y) a b
 
 -- one more entry is put in its place
 pub row_placed_more : (q : Symmetric) (i k at : ℕ) (old new : List ℤ) (v : ℤ) → IsPartRowCopied q i k old new → length old ≡ 36 → k ≤ i → i < 8

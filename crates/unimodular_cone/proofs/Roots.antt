@@ -61,7 +61,7 @@ module _ (q : Symmetric) (lower : List ℤ) (rows : List (List ℕ)) (m : IsSymm
   abbrev pub start : Inside
   start = record { n = q.size; path = []; gram = lower; generators = rows }
 
-  coordinate_is : (k p : ℕ) → k < q.size → p < q.size → shown_generators (shown_of start) k p ≡ unit_vectors k p
+  pub coordinate_is : (k p : ℕ) → k < q.size → p < q.size → shown_generators (shown_of start) k p ≡ unit_vectors k p
   coordinate_is k p lk lp = ap pos (coordinate_shown start k p lk lp) ∙ by (same_or_not k p)
     where
       by : ((k ≡ p) ⊎ (k ≢ p)) → pos (slice_index_or (slice_index_or rows k []) p 0) ≡ unit_vectors k p

@@ -1,6 +1,6 @@
 -- A cone that shows the cone at a path: its pair, its slacks, its values and its children are those of the path.
 use Rattle.std.specs.Prelude.{◌≡◌, ◌≢◌, ◌⊎◌, ℕ, ◌<◌, ℤ, pos, ◌+ℤ◌, ◌-ℤ◌, ◌≤ℤ◌, cond, eqb, Bool, true, false, Some, None, Result, Ok, Err, IfOk, IfErr, [], ◌∷◌}
-use Rattle.std.specs.Prelude.{◌++◌}
+use Rattle.std.specs.Prelude.{◌++◌, ◌≤◌, ◌-◌}
 use Rattle.std.proofs.Common.{arith, sym, ◌∙◌, ap, ap₂, inl, inr, subst}
 use Rattle.commutative_ring.proofs.SmallCases.{same_or_not}
 use Rattle.exact_forms.specs.Slacks.{slack, shortfall, IsClosed}
@@ -185,3 +185,8 @@ shows_child c i j side (Err OutOfMemory) li lj made wide q v h = wide
 
 pub exact_child : (c : ShownCone) (i j : ℕ) (side : Bool) (d : ShownCone) → i < j → j < c.size → IsChild c i j side d → IsExactChild c i j side d
 exact_child c i j side d lt lj made q v h = child_of c.size q v c h i j (omega arith) lj side d made
+
+-- of generators that are named by the numbers from 1
+pub exact_child_of : (c : ShownCone) (i j : ℕ) (side : Bool) (d : ShownCone) → 1 ≤ i → i < j → j ≤ c.size → IsChild c (i - 1) (j - 1) side d
+    → IsExactChild c (i - 1) (j - 1) side d
+exact_child_of c i j side d first order last = exact_child c (i - 1) (j - 1) side d (omega arith) (omega arith)

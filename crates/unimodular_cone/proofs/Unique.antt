@@ -44,23 +44,23 @@ pairs_order a b c d = by (three_ways a c) (three_ways b d)
     by (inr (inl e)) (inr (inr h)) = inr (inr (inr (sym e, h)))
     by (inr (inr h)) k = inr (inr (inl h))
 
-pub entries_order : (e f : WideEntry) → StandsBefore e f ⊎ ((e ≡ f) ⊎ StandsBefore f e)
-entries_order (Coordinate k p) (Coordinate l r) = by (pairs_order k p l r)
+-- entries of one kind stand in the order of their places
+ordered : (kind : ℕ → ℕ → WideEntry) (a b c d : ℕ) → (((a < c) ⊎ ((a ≡ c) × (b < d))) → StandsBefore (kind a b) (kind c d))
+    → (((c < a) ⊎ ((c ≡ a) × (d < b))) → StandsBefore (kind c d) (kind a b))
+    → StandsBefore (kind a b) (kind c d) ⊎ ((kind a b ≡ kind c d) ⊎ StandsBefore (kind c d) (kind a b))
+ordered kind a b c d before after = by (pairs_order a b c d)
   where
-    by : (((k < l) ⊎ ((k ≡ l) × (p < r))) ⊎ (((k ≡ l) × (p ≡ r)) ⊎ ((l < k) ⊎ ((l ≡ k) × (r < p)))))
-        → StandsBefore (Coordinate k p) (Coordinate l r) ⊎ ((Coordinate k p ≡ Coordinate l r) ⊎ StandsBefore (Coordinate l r) (Coordinate k p))
-    by (inl h) = inl h
-    by (inr (inl (e, f))) = inr (inl (ap₂ Coordinate e f))
-    by (inr (inr h)) = inr (inr h)
+    by : (((a < c) ⊎ ((a ≡ c) × (b < d))) ⊎ (((a ≡ c) × (b ≡ d)) ⊎ ((c < a) ⊎ ((c ≡ a) × (d < b)))))
+        → StandsBefore (kind a b) (kind c d) ⊎ ((kind a b ≡ kind c d) ⊎ StandsBefore (kind c d) (kind a b))
+    by (inl h) = inl (before h)
+    by (inr (inl (e, f))) = inr (inl (ap₂ kind e f))
+    by (inr (inr h)) = inr (inr (after h))
+
+pub entries_order : (e f : WideEntry) → StandsBefore e f ⊎ ((e ≡ f) ⊎ StandsBefore f e)
+entries_order (Coordinate k p) (Coordinate l r) = ordered Coordinate k p l r (λ h. h) (λ h. h)
 entries_order (Coordinate k p) (Gram i j) = inl tt
 entries_order (Gram i j) (Coordinate k p) = inr (inr tt)
-entries_order (Gram i j) (Gram k l) = by (pairs_order i j k l)
-  where
-    by : (((i < k) ⊎ ((i ≡ k) × (j < l))) ⊎ (((i ≡ k) × (j ≡ l)) ⊎ ((k < i) ⊎ ((k ≡ i) × (l < j)))))
-        → StandsBefore (Gram i j) (Gram k l) ⊎ ((Gram i j ≡ Gram k l) ⊎ StandsBefore (Gram k l) (Gram i j))
-    by (inl h) = inl h
-    by (inr (inl (e, f))) = inr (inl (ap₂ Gram e f))
-    by (inr (inr h)) = inr (inr h)
+entries_order (Gram i j) (Gram k l) = ordered Gram i j k l (λ h. h) (λ h. h)
 
 pub first_over_unique : (n : ℕ) (q : Matrix) (v : Generators) (e f : WideEntry) → IsFirstOver n q v e → IsFirstOver n q v f → e ≡ f
 first_over_unique n q v e f a b = by (entries_order e f)
@@ -70,32 +70,21 @@ first_over_unique n q v e f a b = by (entries_order e f)
     by (inr (inl same)) = same
     by (inr (inr h)) = absurd (a.first f h b.over)
 
+abbrev IsInChild : ℕ → Matrix → Path → Path → WideEntry → ℕ → ℕ → Type 0
+IsInChild n q p at_path entry i j = ((at_path ≡ p ++ false ∷ []) × IsFirstOver n q (child (cone_at n q p) i j) entry)
+    ⊎ (Fits n q (child (cone_at n q p) i j) × (at_path ≡ p ++ true ∷ []) × IsFirstOver n q (child (cone_at n q p) j i) entry)
+
 pub first_over_below_unique : (n : ℕ) (q : Matrix) (p a b : Path) (e f : WideEntry) → IsFirstOverBelow n q p a e → IsFirstOverBelow n q p b f
     → (a ≡ b) × (e ≡ f)
 first_over_below_unique n q p a b e f x y = by x.in_child moved
   where
-    v : Generators
-    v = cone_at n q p
-
     same : (y.i ≡ x.i) × (y.j ≡ x.j)
     same = some_pair (sym y.pair ∙ x.pair)
 
-    In : Path → WideEntry → ℕ → ℕ → Type 0
-    In at_path entry i j = ((at_path ≡ p ++ false ∷ []) × IsFirstOver n q (child v i j) entry)
-        ⊎ (Fits n q (child v i j) × (at_path ≡ p ++ true ∷ []) × IsFirstOver n q (child v j i) entry)
+    moved : IsInChild n q p b f x.i x.j
+    moved = subst (λ (i : ℕ). IsInChild n q p b f i x.j) same.0 (subst (λ (j : ℕ). IsInChild n q p b f y.i j) same.1 y.in_child)
 
-    moved : ((b ≡ p ++ false ∷ []) × IsFirstOver n q (child v x.i x.j) f)
-        ⊎ (Fits n q (child v x.i x.j) × (b ≡ p ++ true ∷ []) × IsFirstOver n q (child v x.j x.i) f)
-    moved = subst (λ (i : ℕ). ((b ≡ p ++ false ∷ []) × IsFirstOver n q (child v i x.j) f)
-        ⊎ (Fits n q (child v i x.j) × (b ≡ p ++ true ∷ []) × IsFirstOver n q (child v x.j i) f)) same.0
-        (subst (λ (j : ℕ). ((b ≡ p ++ false ∷ []) × IsFirstOver n q (child v y.i j) f)
-        ⊎ (Fits n q (child v y.i j) × (b ≡ p ++ true ∷ []) × IsFirstOver n q (child v j y.i) f)) same.1 y.in_child)
-
-    by : (((a ≡ p ++ false ∷ []) × IsFirstOver n q (child v x.i x.j) e)
-        ⊎ (Fits n q (child v x.i x.j) × (a ≡ p ++ true ∷ []) × IsFirstOver n q (child v x.j x.i) e))
-        → (((b ≡ p ++ false ∷ []) × IsFirstOver n q (child v x.i x.j) f)
-        ⊎ (Fits n q (child v x.i x.j) × (b ≡ p ++ true ∷ []) × IsFirstOver n q (child v x.j x.i) f))
-        → (a ≡ b) × (e ≡ f)
+    by : IsInChild n q p a e x.i x.j → IsInChild n q p b f x.i x.j → (a ≡ b) × (e ≡ f)
     by (inl (g, o)) (inl (h, o')) = (g ∙ sym h, first_over_unique n q _ e f o o')
     by (inl (g, o)) (inr (fits, h, o')) = absurd (fits e o.over)
     by (inr (fits, g, o)) (inl (h, o')) = absurd (fits f o'.over)

@@ -1,16 +1,17 @@
 -- The way from the root to a path.
 use Rattle.std.specs.Prelude.{◌≡◌, ◌≢◌, ◌⊎◌, ℕ, ◌<◌, ◌≤◌, ◌+◌, Bool, true, false, nat_eq, Option, Some, None, [], ◌∷◌, ◌++◌, length, take}
-use Rattle.std.proofs.Common.{arith, sym, ◌∙◌, ap, refl, inl, inr, subst, length-take-le, take_all}
+use Rattle.std.proofs.Common.{arith, sym, ◌∙◌, ap, refl, inl, inr, subst, length-take-le, take_all, append_assoc}
 use Rattle.std.proofs.lemmas.List.{take_more}
 use Rattle.unimodular_cone.specs.declared.refusal.ConeFail.{ConeFail}
 use Rattle.unimodular_cone.specs.declared.refusal.ConeFail.TheVariants.{Wide, OutOfMemory}
 use Rattle.unimodular_cone.specs.Paths.{Path, IsAbove, digit_of, digit_at}
-use Rattle.unimodular_cone.specs.Cones.{Matrix, gram, cone_at, pair_of, IsPair, Fits, IsFirstOver}
+use Rattle.unimodular_cone.specs.Cones.{Matrix, gram, cone_at, pair_of, unit_vectors, IsPair, Fits, IsFirstOver}
+use Rattle.unimodular_cone.specs.Tree.{IsInTree}
 use Rattle.unimodular_cone.specs.Shown.{ShownCone, IsConeAt, IsNext, IsFirstWideNext, IsFirstWideAt, IsReachable, IsWideWhere, IsWithinLimits, shown_gram}
 use Rattle.unimodular_cone.specs.Shown.{NamesPair}
 use Rattle.unimodular_cone.proofs.Orders.{take_is_above}
 use Rattle.unimodular_cone.proofs.ShownAt.{child_at_path, wide_at_path, no_pair_at, pair_at, fits_at}
-use Rattle.unimodular_cone.proofs.Tree.{above_child}
+use Rattle.unimodular_cone.proofs.Tree.{above_child, above_shorter, fits_in_tree}
 
 pub digit_back : (b : Bool) → nat_eq (digit_of b) 1 ≡ b
 digit_back false = refl
@@ -82,3 +83,24 @@ reachable_more n q path c i j side reach h w p = record {
     fit : (a : Path) → ((a ≡ path) ⊎ IsAbove a path) → Fits n q (cone_at n q a)
     fit a (inl e) = subst (λ (r : Path). Fits n q (cone_at n q r)) (sym e) (fits_at n q path c h w)
     fit a (inr above) = reach.fits a above
+
+-- ---- the way to a path of the tree
+above_above : (b a p : Path) → IsAbove b a → IsAbove a p → IsAbove b p
+above_above b a p (t, u, f) (s, r, e) = (t, u ++ s ∷ r, e ∙ ap (λ (w : Path). w ++ s ∷ r) f ∙ append_assoc b (t ∷ u) (s ∷ r))
+
+above_in_tree : (n : ℕ) (q : Matrix) (d : ℕ) (a p : Path) → IsAbove a p → IsInTree n q d p → IsInTree n q d a
+above_in_tree n q d a p h t = record {
+  short = (let l : length a < length p = above_shorter a p h in let s : length p ≤ d = t.short in omega arith);
+  above = λ b k. t.above b (above_above b a p k h);
+}
+
+pub tree_reachable : (n : ℕ) (q : Matrix) (d : ℕ) (p : Path) → Fits n q unit_vectors → IsInTree n q d p → IsReachable n q p
+tree_reachable n q d p root t = record {
+  pair = λ a h none. let can = t.above a h in not_none can.i can.j (sym can.pair ∙ none);
+  fits = λ a h. fits_in_tree n q d root a (above_in_tree n q d a p h t);
+}
+
+pub tree_not_wide : (n : ℕ) (q : Matrix) (d : ℕ) (p : Path) (fail : ConeFail) → Fits n q unit_vectors → IsInTree n q d p
+    → IsWideWhere (IsFirstWideAt n q p) fail → ⊥
+tree_not_wide n q d p (Wide at) root t w = fits_in_tree n q d root p t at.entry w.entry.over
+tree_not_wide n q d p OutOfMemory root t w = w

@@ -35,7 +35,8 @@ pub trait ConeTests: ConeRead {
         requires order { i < j }
         requires last { j ≤ (Self.cone self.now).size }
         requires room { length (Self.cone self.now).path < 200 }
-        ensures { MatchOption result (FitsOnBothSides (Self.cone self.now) (i - 1) (j - 1)) (IsFirstWideBelow (Self.cone self.now) (i - 1) (j - 1)) };
+        ensures { MatchOption result (FitsOnBothSides (Self.cone self.now) (i - 1) (j - 1))
+            (IsFirstWideBelow (Self.cone self.now) (i - 1) (j - 1)) };
 }
 
 impl ConeTests for Cone {

@@ -5,7 +5,7 @@ ghost use Rattle.exact_forms.specs.Triangles.{triangle};
 ghost use Rattle.symmetric_matrix.specs.Symmetric.{entry};
 ghost use Rattle.unimodular_cone.specs.Copies.{IsCopiedTo};
 ghost use Rattle.unimodular_cone.specs.Mediant.{FitsWith, IsMediantOf, AreProducts};
-ghost use Rattle.unimodular_cone.specs.Narrow.{HasNarrowGram, HasNarrowMediant, IsNarrowMatrix};
+ghost use Rattle.unimodular_cone.specs.Narrow.{HasNarrowGram, HasNarrowMediant, HasShallowCoordinates, IsNarrowMatrix};
 ghost use Rattle.unimodular_cone.specs.Replacement.{IsChildWith, IsRowSet};
 ghost use Rattle.unimodular_cone.specs.Shown.{FitsOnBothSides, shown_gram, IsWithinLimits, IsConeAt, IsChild};
 
@@ -94,21 +94,22 @@ impl NarrowCone {
             return false;
         }
         let coordinates = mediant_coordinates(self, r, s, n);
-        above.become_copy(self);
-        above.put(&coordinates, &products, r, s, 0);
-        self.put(&coordinates, &products, s, r, 1);
+        above.become_copy(self, n);
+        above.put(&coordinates, &products, r, s, 0, n);
+        self.put(&coordinates, &products, s, r, 1, n);
         true
     }
 
-    /// Becomes the same cone as another.
+    /// Becomes the same cone as another, of n generators.
     #[inline(always)]
-    fn become_copy(&mut self, other: &NarrowCone)
+    fn become_copy(&mut self, other: &NarrowCone, n: u8)
+        requires size { n ≡ other.now.size }
         ensures { self.new ≡ other.now }
     {
         self.n = other.n;
         self.path = other.path;
-        copy_lower(&mut self.gram, &other.gram, other.n);
-        copy_rows(&mut self.generators, &other.generators, other.n);
+        copy_lower(&mut self.gram, &other.gram, n);
+        copy_rows(&mut self.generators, &other.generators, n);
     }
 
     /// A Gram entry, in either triangle, at a row and a column that count from 0.
@@ -129,6 +130,7 @@ impl NarrowCone {
         ensures size { result ≡ self.now.size }
         ensures fits { IsWithinLimits self.now }
         ensures narrow { HasNarrowGram self.now }
+        ensures shallow { HasShallowCoordinates self.now }
     {
         self.n
     }
@@ -146,9 +148,10 @@ impl NarrowCone {
     }
 
     /// Puts the mediant of r and s in the place of r, and a digit at the path's end, with the mediant's coordinates and its
-    /// products with the generators. That child is narrow, and no entry of it is over its limit.
+    /// products with the n generators. That child is narrow, and no entry of it is over its limit.
     #[inline(always)]
-    fn put(&mut self, coordinates: &[u64; 8], products: &[i64; 8], r: u8, s: u8, side: u8)
+    fn put(&mut self, coordinates: &[u64; 8], products: &[i64; 8], r: u8, s: u8, side: u8, n: u8)
+        requires size { n ≡ self.old.size }
         requires first { r < self.old.size }
         requires second { s < self.old.size }
         requires apart { r ≢ s }
@@ -162,7 +165,7 @@ impl NarrowCone {
     {
         self.path.push(side);
         self.generators[usize::from(r)] = *coordinates;
-        set_row(&mut self.gram, products, r, self.n);
+        set_row(&mut self.gram, products, r, n);
         self.gram[place_of(r, r)] += products[usize::from(s)];
     }
 }

@@ -10,24 +10,23 @@ use crate::narrow::NarrowCone;
 
 /// The least negative entry so far and its place, from 0; the value 0 where there is none.
 ///
-/// All three fill a word, so that it is copied without gaps.
+/// The place is one number, 8 times the row and the column, so that a better entry moves two words.
 #[derive(Clone, Copy)]
 struct NarrowBest {
     value: i64,
-    row: u64,
-    column: u64,
+    place: u64,
 }
 
 /// The better of the best so far and one more entry, the earlier one among equals.
 #[inline(always)]
 fn better_of(best: NarrowBest, value: i64, row: u8, column: u8) -> NarrowBest
+    requires { column < 8 }
     ensures { as_best result ≡ better_best (as_best best) value row column }
 {
     if value < best.value {
         NarrowBest {
             value,
-            row: u64::from(row),
-            column: u64::from(column),
+            place: 8 * u64::from(row) + u64::from(column),
         }
     } else {
         best
@@ -58,16 +57,12 @@ fn pair_of(c: &NarrowCone, n: u8) -> Option<(u8, u8)>
     requires size { n ≡ c.now.size }
     ensures { NamesPair c.now result }
 {
-    let mut best = NarrowBest {
-        value: 0,
-        row: 0,
-        column: 0,
-    };
+    let mut best = NarrowBest { value: 0, place: 0 };
     for row in 0..n {
         best = best_beyond(c, row, n, best);
     }
     if best.value < 0 {
-        Some((best.row as u8 + 1, best.column as u8 + 1))
+        Some(((best.place / 8) as u8 + 1, (best.place % 8) as u8 + 1))
     } else {
         None
     }

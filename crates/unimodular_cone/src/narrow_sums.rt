@@ -5,6 +5,7 @@ ghost use Rattle.unimodular_cone.specs.Mediant.{AreProducts, FitsWith};
 ghost use Rattle.unimodular_cone.specs.Narrow.{HasNarrowGram, HasNarrowMediant};
 ghost use Rattle.unimodular_cone.specs.Shown.{IsWithinLimits, FitsOnBothSides};
 
+use crate::cone_read::ConeRead;
 use crate::mediant::{first_wide_coordinate, mediant_coordinates};
 use crate::narrow::NarrowCone;
 
@@ -78,7 +79,7 @@ fn coordinates_fit_of(c: &NarrowCone, n: u8, r: u8, s: u8) -> bool
     }
 }
 
-/// The same, for an n that the compiler knows.
+/// The same. A coordinate is at most two to the depth, so that few cones are looked at.
 #[inline(always)]
 pub fn coordinates_fit(c: &NarrowCone, r: u8, s: u8) -> bool
     requires first { r < c.now.size }
@@ -86,7 +87,11 @@ pub fn coordinates_fit(c: &NarrowCone, r: u8, s: u8) -> bool
     requires order { r < s }
     ensures { IsTrue result → FitsOnBothSides c.now r s }
 {
-    match c.count() {
+    let n = c.count();
+    if c.path().len() < 62 {
+        return true;
+    }
+    match n {
         2 => coordinates_fit_of(c, 2, r, s),
         3 => coordinates_fit_of(c, 3, r, s),
         4 => coordinates_fit_of(c, 4, r, s),

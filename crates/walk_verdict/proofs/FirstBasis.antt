@@ -57,7 +57,7 @@ module _ (vectors : List (List ℕ)) (s : Symmetric) (d : ℤ) (L : IsPlaceable 
   P = program_of vectors s
 
   R : IsProgram P (over_first vectors s)
-  R = is_linear_program vectors s d L.some L.sizes L.perfect
+  R = is_linear_program vectors s d L
 
   abbrev first_coordinates : ℕ → Rational
   first_coordinates k = over_first vectors s P.target (low_of s + k)

@@ -19,8 +19,7 @@ use Rattle.exact_lp.specs.OfVectors.{IsPlaceable}
 use Rattle.exact_lp.specs.Rule.{is_inside}
 use Rattle.exact_lp.specs.Weights.{IsSound}
 use Rattle.exact_lp.proofs.Placing.{run_none}
-use Rattle.exact_lp.proofs.Ruled.{ruled}
-use Rattle.exact_lp.proofs.Sound.{sound}
+use Rattle.exact_lp.proofs.Ruled.{ruled, sound}
 use Rattle.matrix_text.specs.RationalMatrix.{RationalMatrix, rational_entry}
 use Rattle.matrix_text.specs.Clearing.{cleared_of}
 use Rattle.matrix_text.specs.Quotients.{whole_of, denominator_of, IsClearable}
@@ -79,8 +78,11 @@ module _ (T : Task) (limit : ℕ) (some : 1 ≤ T.s.size) (positive : pos 1 ≤�
   is_placed : IsPlaceAnswer p limit (placed.Inside found [])
   is_placed = (run_none p limit [] refl, record { last = last; owes = place_owes; found_are = refl })
 
+  can_place : IsPlaceable v.vectors T.s
+  can_place = record { some = some; sizes = held_size T.s.size v held; perfect = held.perfect }
+
   is_sound : IsSound T.s.size v.vectors T.s T.d (placed.Inside found [])
-  is_sound = sound v.vectors T.s T.d some (held_size T.s.size v held) held.perfect limit (placed.Inside found []) positive is_placed
+  is_sound = sound v.vectors T.s T.d can_place limit (placed.Inside found []) positive is_placed
 
   -- P does not separate what its vectors factor
   met : pos 0 ≤ℤ product_at T (start_state T.s.size)
@@ -115,7 +117,7 @@ module _ (T : Task) (limit : ℕ) (some : 1 ≤ T.s.size) (positive : pos 1 ≤�
         record {
           last = last;
           weights_are = refl;
-          rule = ruled v.vectors T.s T.d some (held_size T.s.size v held) held.perfect limit (placed.Inside found []) is_placed;
+          rule = ruled v.vectors T.s T.d can_place limit (placed.Inside found []) is_placed;
           number = is_sound.0;
           sum = is_sound.1;
         },

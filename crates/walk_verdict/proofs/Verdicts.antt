@@ -17,6 +17,7 @@ use Rattle.contiguous.specs.declared.neighbour.Tighten.{Tighten}
 use Rattle.contiguous.specs.Tightenings.{last_tighten, candidate}
 use Rattle.matrix_text.specs.RationalMatrix.{RationalMatrix, rational_entry}
 use Rattle.matrix_text.proofs.Quotients.{whole_size, denominator_positive, quotient_entry}
+use Rattle.perfect_walk.proofs.RayParts.{IsSearchBy}
 use Rattle.perfect_walk.specs.declared.journal.Visit.{Visit}
 use Rattle.perfect_walk.specs.declared.journal.End.{End}
 use Rattle.perfect_walk.specs.States.{Task, WalkState, ray_at, line_at, ray_product_at}
@@ -57,9 +58,7 @@ module _ (a : RationalMatrix) (depth : ℕ) where
   ray_right σ h = by (last_tighten σ.tightens) refl h.answers
     where
       by : (o : Option Tighten) → last_tighten σ.tightens ≡ o
-          → IsSearchAnswer (elim o as (λ _. Mode) [ None ↦ Mode.Sign | Some t ↦ Mode.Least ])
-          (elim o as (λ _. Symmetric) [ None ↦ ray_at T σ | Some t ↦ candidate (line_at T σ) t ]).size
-          (entry (elim o as (λ _. Symmetric) [ None ↦ ray_at T σ | Some t ↦ candidate (line_at T σ) t ])) depth Copositive
+          → IsSearchBy T σ o depth Copositive
           → IsSeparator a depth (ray_at T σ) (over_d T (ray_product_at T σ))
       by (Some t) e k = absurd (let m : Mode.Least ≡ Mode.Sign = k.0 in cc)
       by None e k =

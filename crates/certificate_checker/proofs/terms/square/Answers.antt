@@ -26,11 +26,11 @@ overflow_add-j c =
     omega arith
 
 pub whole-requires : goal.whole-requires
-whole-requires c = (square_fits c.term.inside.vector c.args.i c.args.j c.at-x.result c.at-y.result c.at-x.ensures.value c.at-y.ensures.value
+whole-requires c = (square_fits c.term.inside.vector c.args.i c.args.j _ _ c.at-x.ensures.value c.at-y.ensures.value
     c.at-x.ensures.small c.at-y.ensures.small).1
 
 pub returns : goal.returns
 returns c =
-    let product = (square_fits c.term.inside.vector c.args.i c.args.j c.at-x.result c.at-y.result c.at-x.ensures.value c.at-y.ensures.value
+    let product = (square_fits c.term.inside.vector c.args.i c.args.j _ _ c.at-x.ensures.value c.at-y.ensures.value
     c.at-x.ensures.small c.at-y.ensures.small).0 in
     c.whole.ensures ∙ ap whole product ∙ ap (λ (t : WeightedVector). outer_entry t c.args.i c.args.j) c.term.view_is

@@ -1,8 +1,7 @@
-use Rattle.std.specs.Prelude.{◌≡◌, ◌<◌, ◌+◌, ◌++◌, ◌∷◌, [], List, length, take}
+use Rattle.std.specs.Prelude.{◌≡◌, ◌<◌, ◌+◌, length, take}
 use Rattle.std.proofs.Common.{arith, ap, sym, ◌∙◌}
 use Rattle.std.proofs.lemmas.List.{with_items_is}
-use Rattle.unimodular_cone.specs.Shown.{ShownCone}
-use Rattle.cone_arena.proofs.Tops.{take_pair, same_row, same_below}
+use Rattle.cone_arena.proofs.Tops.{same_row, top_split}
 use Rattle.cone_arena.proofs.narrow_arena.split_in.Goals as goal
 
 pub split_rows-requires-clause-splits : goal.split_rows-requires-clause-splits
@@ -22,13 +21,4 @@ returns-clause-split c t =
     let filled : top + 1 < length xs = omega (arith, ap length c.deref_mut.ensures.value, c.fill_above.ensures.filled) in
     let lens : length c.split_rows.new.rows ≡ length c.fill_above.new.rows.items = c.split_rows.ensures.count ∙ ap length c.deref_mut.ensures.value in
     let back = with_items_is c.fill_above.new.rows c.split_rows.new.rows (lens ∙ sym c.fill_above.new.rows.ok.0) in
-    record {
-      was = split.was;
-      second = split.second;
-      first = split.first;
-      stood = split.stood ∙ same_row xs old top split.was agree;
-      is_second = split.is_second;
-      is_first = split.is_first;
-      cones = ap (take (top + 2)) (back ∙ split.rows) ∙ take_pair xs top split.second split.first filled
-          ∙ ap (λ (s : List ShownCone). s ++ split.second ∷ split.first ∷ []) (same_below xs old top agree);
-    }
+    top_split old xs _ _ top _ _ agree filled split back

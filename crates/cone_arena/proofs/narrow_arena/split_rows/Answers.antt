@@ -1,24 +1,12 @@
-use Rattle.std.specs.Prelude.{◌≡◌, ◌+◌, ◌-◌, List, true, false, length, slice_index_or}
-use Rattle.std.proofs.Common.{arith, ◌∙◌, ap, sym, subst, length-set}
-use Rattle.std.proofs.lemmas.List.{get_or-take}
-use Rattle.unimodular_cone.specs.Shown.{ShownCone, IsChild}
-use Rattle.cone_arena.proofs.Tops.{set_parts, front_kept}
+use Rattle.std.proofs.Common.{◌∙◌, ap, sym}
+use Rattle.std.specs.Prelude.{slice_index_or}
+use Rattle.unimodular_cone.specs.Shown.{ShownCone}
+use Rattle.cone_arena.proofs.Tops.{rows_split, front_kept}
 use Rattle.cone_arena.proofs.narrow_arena.split_rows.Goals as goal
 
 pub returns-clause-split : goal.returns-clause-split
-returns-clause-split c t = record {
-  was = c.index-below-top.result;
-  second = c.split_into.new.self;
-  first = c.split_into.new.above;
-  stood = c.index-below-top.is
-      ∙ ap (λ (s : List ShownCone). slice_index_or s c.args.top c.index-below-top.result) c.split_at_mut-below.ensures.front
-      ∙ get_or-take _ c.args.rows.now c.args.top c.index-below-top.result (omega arith);
-  is_second = subst (λ (d : ShownCone). IsChild d (c.args.i - 1) (c.args.j - 1) true c.split_into.new.self) (sym c.index-below-top.is)
-      (c.split_into.ensures.one t);
-  is_first = subst (λ (d : ShownCone). IsChild d (c.args.i - 1) (c.args.j - 1) false c.split_into.new.above) (sym c.index-below-top.is)
-      (c.split_into.ensures.zero t);
-  rows = set_parts _ _ _ c.args.top _ _ c.split_at_mut-below.ensures.value c.split_at_mut-below.ensures.front_len;
-}
+returns-clause-split c t = rows_split _ _ _ c.args.top c.args.i c.args.j _ _ _ c.split_at_mut-below.ensures.value c.split_at_mut-below.ensures.front
+    c.split_at_mut-below.ensures.front_len c.index-below-top.is (c.split_into.ensures.one t) (c.split_into.ensures.zero t)
 
 pub returns-clause-kept : goal.returns-clause-kept
 returns-clause-kept c f =

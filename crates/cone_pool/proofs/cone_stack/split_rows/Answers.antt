@@ -2,8 +2,9 @@ use Rattle.std.specs.Prelude.{◌≡◌, ◌<◌, ◌≤◌, ◌+◌, ◌-◌, �
 use Rattle.std.proofs.Common.{arith, ◌∙◌, ap, sym, subst, length-take, length-set}
 use Rattle.unimodular_cone.specs.Shown.{ShownCone, IsChild, FitsOnBothSides}
 use Rattle.cone_pool.specs.Turns.{IsSplitPair}
-use Rattle.cone_pool.proofs.Tops.{on_top, top_read}
-use Rattle.cone_pool.proofs.Rows.{set_parts, take_pair, rest_below}
+use Rattle.unimodular_cone.proofs.Tops.{on_top, set_parts, take_pair}
+use Rattle.cone_pool.proofs.Tops.{top_read}
+use Rattle.cone_pool.proofs.Rows.{rest_below}
 use Rattle.cone_pool.proofs.cone_stack.split_rows.Goals as goal
 
 here : (c : goal.After-index-above-0) → c.args.top + 1 ≡ length (take (c.args.top + 1) c.args.rows.now)

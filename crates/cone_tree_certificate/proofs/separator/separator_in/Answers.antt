@@ -9,19 +9,28 @@ use Rattle.cone_tree_certificate.specs.Rows.{seen_rows, w_entries}
 use Rattle.cone_tree_certificate.proofs.Steps.{refused_same, reads_same}
 use Rattle.cone_tree_certificate.proofs.Symmetries.{entries-seen}
 use Rattle.cone_tree_certificate.proofs.Writable.{rows-narrow}
-use Rattle.cone_tree_certificate.proofs.Wholes.{after_tree, rows_refused, rows_read, value_refused, up_to_value, count_refused, up_to_count, tree_refused}
+use Rattle.cone_tree_certificate.proofs.Wholes.{after_count, after_tree, rows_refused, rows_read, value_refused, up_to_value, count_refused, up_to_count}
+use Rattle.cone_tree_certificate.proofs.Wholes.{tree_refused}
 use Rattle.cone_tree_certificate.proofs.Wholes.{tree_read, nothing_left}
 use Rattle.cone_tree_certificate.proofs.separator.separator_in.Goals as goal
-use Rattle.cone_tree_certificate.proofs.separator.separator_in.Goals.{After-end_of_lines}
+use Rattle.cone_tree_certificate.proofs.separator.separator_in.Goals.{After-tree_in, After-end_of_lines}
 
--- what the lines are, once the tree is read
-tree_here : (c : After-end_of_lines) → separator_of c.args.n c.args.lines.end c.args.lines.lines
-    ≡ after_tree (seen_rows c.args.n (take c.args.n c.in_ok-rows.rows)) c.in_ok-value.value c.in_ok-tree.tree c.tree_in.new.lines.lines
-tree_here c =
+-- what the lines are, once the count is read
+count_here : (c : After-tree_in) → separator_of c.args.n c.args.lines.end c.args.lines.lines
+    ≡ after_count c.args.n c.args.lines.end (seen_rows c.args.n (take c.args.n c.in_ok-rows.rows)) c.in_ok-value.value c.in_ok-count.count
+    c.next_count.new.lines.lines
+count_here c =
     up_to_count c.args.n c.args.lines.end c.args.lines.lines _ c.in_ok-rows.ensures.read c.in_ok-value.value c.next_value.new.lines.lines
     (rw c.rows_in.ensures.end at c.in_ok-value.ensures.read) c.in_ok-count.count c.next_count.new.lines.lines
     (rw (c.next_value.ensures.end, c.rows_in.ensures.end) at c.in_ok-count.ensures.read)
-    ∙ tree_read c.args.n c.args.lines.end (seen_rows c.args.n (take c.args.n c.in_ok-rows.rows)) c.in_ok-value.value c.in_ok-count.count
+
+-- and once the tree is
+tree_here : (c : After-end_of_lines)
+    → after_count c.args.n c.args.lines.end (seen_rows c.args.n (take c.args.n c.in_ok-rows.rows)) c.in_ok-value.value c.in_ok-count.count
+    c.next_count.new.lines.lines
+    ≡ after_tree (seen_rows c.args.n (take c.args.n c.in_ok-rows.rows)) c.in_ok-value.value c.in_ok-tree.tree c.tree_in.new.lines.lines
+tree_here c =
+    tree_read c.args.n c.args.lines.end (seen_rows c.args.n (take c.args.n c.in_ok-rows.rows)) c.in_ok-value.value c.in_ok-count.count
     c.next_count.new.lines.lines _
     (rw (c.next_count.ensures.end, c.next_value.ensures.end, c.rows_in.ensures.end) at c.in_ok-tree.ensures.read)
 
@@ -53,9 +62,7 @@ returns-in_err-tree c =
     let p = err_from_is_err_and c.from_residual-in_err-tree.result c.from_residual-in_err-tree.ensures.1 in
     let is = rw (c.next_count.ensures.end, c.next_value.ensures.end, c.rows_in.ensures.end) at c.in_err-tree.ensures.read in
     rw (p.1, p.2) (refused_same _ (separator_of c.args.n c.args.lines.end c.args.lines.lines) c.in_err-tree.field-0.0
-    (up_to_count c.args.n c.args.lines.end c.args.lines.lines _ c.in_ok-rows.ensures.read c.in_ok-value.value c.next_value.new.lines.lines
-    (rw c.rows_in.ensures.end at c.in_ok-value.ensures.read) c.in_ok-count.count c.next_count.new.lines.lines
-    (rw (c.next_value.ensures.end, c.rows_in.ensures.end) at c.in_ok-count.ensures.read))
+    (count_here (goal.at.returns-in_err-tree c).After-tree_in)
     (tree_refused c.args.n c.args.lines.end (seen_rows c.args.n (take c.args.n c.in_ok-rows.rows)) c.in_ok-value.value c.in_ok-count.count
     c.next_count.new.lines.lines c.in_err-tree.field-0.0 is))
 
@@ -63,7 +70,7 @@ pub returns-in_err-end_of_lines : goal.returns-in_err-end_of_lines
 returns-in_err-end_of_lines c =
     let p = err_from_is_err_and c.from_residual-in_err-end_of_lines.result c.from_residual-in_err-end_of_lines.ensures.1 in
     rw (p.1, p.2) (refused_same _ (separator_of c.args.n c.args.lines.end c.args.lines.lines) c.in_err-end_of_lines.field-0.0
-    (tree_here (goal.at.returns-in_err-end_of_lines c).After-end_of_lines)
+    (count_here (goal.at.returns-in_err-end_of_lines c).After-tree_in ∙ tree_here (goal.at.returns-in_err-end_of_lines c).After-end_of_lines)
     (c.in_err-end_of_lines.ensures
     (unless_unlike (seen_rows c.args.n (take c.args.n c.in_ok-rows.rows)) c.in_ok-value.value c.in_ok-tree.tree
     (first_unlike int_eq (pos 0) (row_entries (seen_rows c.args.n (take c.args.n c.in_ok-rows.rows)))))))
@@ -77,7 +84,7 @@ separated-requires c =
 pub returns : goal.returns
 unfolding w_entries
 returns c = reads_same (λ v. v) c.separated.result _ (separator_of c.args.n c.args.lines.end c.args.lines.lines)
-    (tree_here (goal.at.returns c).After-end_of_lines
+    (count_here (goal.at.returns c).After-tree_in ∙ tree_here (goal.at.returns c).After-end_of_lines
     ∙ nothing_left (seen_rows c.args.n (take c.args.n c.in_ok-rows.rows)) c.in_ok-value.value c.in_ok-tree.tree c.tree_in.new.lines.lines
     c.in_ok-end_of_lines.ensures
     ∙ ap (λ (es : List (List ℤ)). unless_unlike (seen_rows c.args.n (take c.args.n c.in_ok-rows.rows)) c.in_ok-value.value c.in_ok-tree.tree

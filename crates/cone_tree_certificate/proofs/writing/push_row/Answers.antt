@@ -2,7 +2,7 @@ use Rattle.std.proofs.Common.{◌≡◌, ◌++◌, ◌∙◌, ◌+◌, ◌-◌, 
 use Rattle.std.specs.Int.{w128}
 use Rattle.std.specs.Fmt.{signed_decimal}
 use Rattle.std.proofs.lemmas.Int.{to_z-of_z}
-use Rattle.text_lines.proofs.Written.{Extends-same, Extends-then, columns, column_none, column_more, column_end}
+use Rattle.text_lines.proofs.Written.{Extends-same, still_kept, columns, column_none, column_more, column_end}
 use Rattle.cone_tree_certificate.proofs.WrittenLines.{entry_word}
 use Rattle.cone_tree_certificate.proofs.writing.push_row.Goals as goal
 
@@ -19,18 +19,14 @@ loop-column-preserved c =
       so_far = column_more (entry_word c.args.w.now c.args.row) c.loop-column.column (signed_decimal c.get.result) c.args.into.now.items
           c.loop-column.into.items c.push_column.new.into.items (ap signed_decimal is) c.loop-column.invariant.so_far
           (rw fits at c.in_ok-push_column.ensures.ok);
-      kept = Extends-then c.args.into.now.items c.loop-column.into.items c.push_column.new.into.items c.loop-column.invariant.kept c.push_column.ensures.kept;
+      kept = still_kept _ _ _ _ c.loop-column.invariant c.push_column.ensures.kept;
     }
 
 pub returns-in_err-push_column-clause-kept : goal.returns-in_err-push_column-clause-kept
-returns-in_err-push_column-clause-kept c =
-    Extends-then c.args.into.now.items c.loop-column.into.items c.push_column.new.into.items c.loop-column.invariant.kept c.push_column.ensures.kept
+returns-in_err-push_column-clause-kept c = still_kept _ _ _ _ c.loop-column.invariant c.push_column.ensures.kept
 
 pub returns-clause-ok : goal.returns-clause-ok
 returns-clause-ok c =
-    let n = c.n-column-end.ensures.value in
-    let test = c.loop-column-test.false in
-    let auto = c.loop-column.auto.column-end in
-    let all : c.loop-column.column ≡ c.args.w.now.size = omega (arith, n, test, auto) in
+    let all : c.loop-column.column ≡ c.args.w.now.size = omega arith in
     column_end (entry_word c.args.w.now c.args.row) c.args.w.now.size c.args.into.now.items c.loop-column.into.items c.push.new.self.items
     (c.loop-column.invariant.so_far ∙ ap (λ k. c.args.into.now.items ++ columns (entry_word c.args.w.now c.args.row) k) all) c.in_ok-push.ensures.items

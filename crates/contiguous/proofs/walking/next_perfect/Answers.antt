@@ -2,7 +2,7 @@ use Rattle.std.proofs.Common.{◌≡◌, ◌++◌, ◌∷◌, rules, arith, to_z
 use mir.Syntax.{w128}
 use Rattle.std.specs.Result.{is_err}
 use Rattle.contiguous.specs.Tightenings.{line_along}
-use Rattle.contiguous.proofs.Ways.{starts, tightenable}
+use Rattle.contiguous.proofs.Ways.{IsRayLine, starts, tightenable}
 use Rattle.contiguous.proofs.Ends.{ends_refused, holds_refused, again_refused, ends_pivots, again_none, reached, at_least_one, IsStepMade, goes_on, ends_answer}
 use Rattle.contiguous.proofs.Ends.{ends_holds, ends_again}
 use Rattle.contiguous.proofs.walking.next_perfect.Given.{Over}
@@ -23,9 +23,7 @@ step g c =
     let appended : c.push.new.self ≡ c.loop.steps ++ c.in-Ok.made.step ∷ [] =
     of_push c.push.result c.is_err.result _ c.is_err.ensures.value c.if-is_err.false c.push.ensures.ok in
     record {
-      sizes = c.requires.sizes;
-      minimum = c.requires.minimum;
-      extreme = c.requires.extreme;
+      ray = record { sizes = c.requires.sizes; minimum = c.requires.minimum; extreme = c.requires.extreme };
       way = rw (to_z-of_z mu_fits) at c.loop.invariant;
       made_is = rw (to_z-of_z mu_fits) at c.in-Ok.ensures.made;
       level_is = to_z-of_z level_fits;
@@ -36,10 +34,9 @@ pub loop-init : goal.loop-init
 loop-init g c =
     let mu_fits : SFits w128 c.args.mu = search rules in
     let l = line_along c.args.p_matrix.now c.args.mu c.args.r_matrix.now in
-    let able = tightenable l c.requires.sizes c.args.vectors.now c.requires.minimum c.requires.extreme
-    c.args.below.now c.requires.length c.requires.nonzero c.requires.below in
-    rw (to_z-of_z mu_fits, c.new-steps.ensures, c.copy-vector.ensures)
-    (starts l c.requires.sizes c.args.vectors.now c.requires.minimum c.requires.extreme c.args.limit c.args.below.now able)
+    let ray : IsRayLine l c.args.vectors.now = record { sizes = c.requires.sizes; minimum = c.requires.minimum; extreme = c.requires.extreme } in
+    let able = tightenable l c.args.vectors.now ray c.args.below.now c.requires.length c.requires.nonzero c.requires.below in
+    rw (to_z-of_z mu_fits, c.new-steps.ensures, c.copy-vector.ensures) (starts l c.args.vectors.now ray c.args.limit c.args.below.now able)
 
 pub tighten-requires-clause-tightenable : goal.tighten-requires-clause-tightenable
 tighten-requires-clause-tightenable g c = c.loop.invariant.ready.tightenable

@@ -16,9 +16,6 @@ loop-row-preserved c =
 
 pub returns : goal.returns
 returns c =
-    let n = c.n-row-end.ensures.value in
-    let test = c.loop-row-test.false in
-    let auto = c.loop-row.auto.row-end in
-    let all : c.loop-row.row ≡ c.args.a.now.size = omega (arith, n, test, auto) in
+    let all : c.loop-row.row ≡ c.args.a.now.size = omega arith in
     diagonal_end c.args.a.now c.args.into.now.items _ _ _ c.in_ok-extend_from_slice.ensures.items
     (c.loop-row.invariant ∙ ap (λ k. c.extend_from_slice.new.self.items ++ cells (diagonal_word c.args.a.now) k) all) c.in_ok-push-2.ensures.items

@@ -12,9 +12,6 @@ loop-row-preserved c = rows_more c.args.matrix.now c.loop-row.row _ _ _ c.loop-r
 
 pub returns : goal.returns
 returns c =
-    let n = c.n-row-end.ensures.value in
-    let test = c.loop-row-test.false in
-    let auto = c.loop-row.auto.row-end in
-    let all : c.loop-row.row ≡ c.args.matrix.now.size = omega (arith, n, test, auto) in
+    let all : c.loop-row.row ≡ c.args.matrix.now.size = omega arith in
     rows_end c.args.matrix.now c.args.into.now.items c.loop-row.into.items
     (c.loop-row.invariant ∙ ap (λ k. c.args.into.now.items ++ flat_map (row_comment c.args.matrix.now) (range_with_len 0 k)) all)

@@ -22,9 +22,6 @@ loop-column-preserved c =
 
 pub returns : goal.returns
 returns c =
-    let n = c.n-column-end.ensures.value in
-    let test = c.loop-column-test.false in
-    let auto = c.loop-column.auto.column-end in
-    let all : c.loop-column.column ≡ c.args.matrix.now.size = omega (arith, n, test, auto) in
+    let all : c.loop-column.column ≡ c.args.matrix.now.size = omega arith in
     comment_end (map (entry_word c.args.matrix.now c.args.row) (range_with_len 0 c.args.matrix.now.size)) c.args.into.now.items _ _ _ c.in_ok-push.ensures.items
     (c.loop-column.invariant ∙ ap (λ k. c.push.new.self.items ++ cells (entry_word c.args.matrix.now c.args.row) k) all) c.in_ok-push-3.ensures.items

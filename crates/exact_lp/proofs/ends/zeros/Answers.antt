@@ -1,7 +1,6 @@
 use Rattle.std.proofs.Common.{◌≡◌, ◌∙◌, ◌+◌, sym, ap, arith, ℕ}
 use Rattle.exact_linear.proofs.Seeking.{gather_take, gather_skip, gather_done}
 use Rattle.exact_linear.specs.Tables.{rows_of, is_basic}
-use Rattle.exact_lp.specs.Placement.{zeros_of, is_basic_vector}
 use Rattle.exact_lp.proofs.Weighing.{zeros_start}
 use Rattle.exact_lp.proofs.ends.zeros.Goals as goal
 use Rattle.exact_lp.proofs.ends.zeros.Goals.{then-is_basic+in_ok-push, else-is_basic}
@@ -15,17 +14,14 @@ loop-vector-preserved c =
     (let a = c.rows-units.ensures.value in omega arith) in
     elim c.if-is_basic.branch [
       | then-is_basic+in_ok-push w ↦ rw w.zeros-is
-          (gather_take (zeros_of c.args.tableau.now c.args.vectors) c.loop-vector.zeros w.push.new.self (is_basic_vector c.args.tableau.now)
-          c.loop-vector.vector (0 + c.args.vectors) c.loop-vector.invariant
+          (gather_take _ _ w.push.new.self _ _ _ c.loop-vector.invariant
           (let a = c.loop-vector-test.true in omega arith) (ap (λ (k : ℕ). is_basic c.args.tableau.now k) column ∙ sym c.is_basic.ensures
           ∙ w.if-is_basic.true) w.in_ok-push.ensures.ok)
       | else-is_basic w ↦ rw w.zeros-is
-          (gather_skip (zeros_of c.args.tableau.now c.args.vectors) c.loop-vector.zeros (is_basic_vector c.args.tableau.now) c.loop-vector.vector
-          (0 + c.args.vectors) c.loop-vector.invariant
+          (gather_skip _ _ _ _ _ c.loop-vector.invariant
           (let a = c.loop-vector-test.true in omega arith) (ap (λ (k : ℕ). is_basic c.args.tableau.now k) column ∙ sym c.is_basic.ensures
           ∙ w.if-is_basic.false))
     ]
 
 pub returns : goal.returns
-returns c = gather_done (zeros_of c.args.tableau.now c.args.vectors) c.loop-vector.zeros (is_basic_vector c.args.tableau.now) c.loop-vector.vector
-    (0 + c.args.vectors) c.loop-vector.invariant (let a = c.loop-vector-test.false in omega arith)
+returns c = gather_done _ _ _ _ _ c.loop-vector.invariant (let a = c.loop-vector-test.false in omega arith)

@@ -6,14 +6,14 @@ use Rattle.exact_lp.proofs.rule.least_row.Goals.{then-is_lower, else-is_lower}
 pub loop-row-preserved : goal.loop-row-preserved
 loop-row-preserved c = elim c.if-is_lower.branch [
   | then-is_lower w ↦ rw w.best-is
-      (least_lower c.args.tableau.now c.args.vectors c.loop-row.best c.loop-row.row c.loop-row.invariant (let a = c.loop-row-test.true in
+      (least_lower _ _ _ _ c.loop-row.invariant (let a = c.loop-row-test.true in
       let b = c.rows-row-end.ensures.value in omega arith) (sym c.is_lower.ensures ∙ w.if-is_lower.true))
   | else-is_lower w ↦ rw w.best-is
-      (least_kept c.args.tableau.now c.args.vectors c.loop-row.best c.loop-row.row c.loop-row.invariant (let a = c.loop-row-test.true in
+      (least_kept _ _ _ _ c.loop-row.invariant (let a = c.loop-row-test.true in
       let b = c.rows-row-end.ensures.value in omega arith) (sym c.is_lower.ensures ∙ w.if-is_lower.false))
 ]
 
 pub returns-clause-value : goal.returns-clause-value
 returns-clause-value c =
-    least_done c.args.tableau.now c.args.vectors c.loop-row.best c.loop-row.row c.loop-row.invariant (let a = c.loop-row-test.false in
+    least_done _ _ _ _ c.loop-row.invariant (let a = c.loop-row-test.false in
     let b = c.rows-row-end.ensures.value in omega arith)

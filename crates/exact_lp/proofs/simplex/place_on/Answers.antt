@@ -1,15 +1,16 @@
-use Rattle.std.proofs.Common.{◌≡◌, ◌∙◌, ◌∷◌, sym, ap, ap₂, subst, arith, ℕ, List, length, length-append, [], ◌+◌}
+use Rattle.std.proofs.Common.{◌≡◌, ◌∙◌, ◌∷◌, sym, ap, ap₂, subst, arith, ℕ, List, length, length-append, [], ◌+◌, ◌≤◌}
 use Rattle.symmetric_matrix.specs.Owed.{first_owed}
 use Rattle.symmetric_matrix.proofs.Owed.{some_of_err}
-use Rattle.exact_linear.specs.Tables.{Table}
+use Rattle.exact_linear.specs.Tables.{Table, rows_of}
 use Rattle.exact_linear.specs.Exchange.{entry_is_owed, first_ops, first_bases}
 use Rattle.exact_lp.specs.Rule.{is_settled}
 use Rattle.exact_lp.specs.Placement.{opened, opened_ops, IsPlaceAnswer, IsWeightsAnswer, IsOutsideAnswer}
 use Rattle.exact_lp.proofs.Weighing.{on_ok}
-use Rattle.exact_lp.proofs.Placing.{problem, err_owed, no_error, if_ok_made, is_none, first_done, wide_first, wide_open, settled_weighed, last_free, at_start}
-use Rattle.exact_lp.proofs.Placing.{at_inside, at_outside, at_pivots, at_wide, at_more, firsts_columns, ranks_columns, entering_within, stepped_facts}
-use Rattle.exact_lp.proofs.Placing.{step_owed, at_row}
+use Rattle.exact_lp.proofs.Placing.{problem, err_owed, no_error, if_ok_made, is_none, IsFirstDone, first_done, wide_first, wide_open, settled_weighed}
+use Rattle.exact_lp.proofs.Placing.{last_free, at_start, at_inside, at_outside, at_pivots, at_wide, at_more, firsts_columns, ranks_columns, entering_within}
+use Rattle.exact_lp.proofs.Placing.{stepped_facts, step_owed, at_row}
 use Rattle.exact_lp.proofs.simplex.place_on.Goals as goal
+use Rattle.exact_lp.proofs.simplex.place_on.Goals.{In-Ok}
 
 pub returns-in-Err : goal.returns-in-Err
 returns-in-Err c = subst (IsPlaceAnswer (problem c.args.start c.args.vectors c.args.d) c.args.budget) (sym c.wide.ensures)
@@ -17,44 +18,51 @@ returns-in-Err c = subst (IsPlaceAnswer (problem c.args.start c.args.vectors c.a
     (some_of_err entry_is_owed (first_ops c.args.start c.args.vectors) (first_bases c.args.start c.args.vectors) c.in-Err.op
     (sym c.bring_in_first.ensures.made ∙ c.in-Err.is)))
 
+-- the first columns have come in
+first_is : (c : In-Ok) → IsFirstDone c.args.start c.in-Ok.tableau c.args.vectors
+first_is c = first_done c.args.start c.in-Ok.tableau c.args.vectors (sym c.in-Ok.is ∙ c.bring_in_first.ensures.made)
+
+width_is : (c : In-Ok) → rows_of c.in-Ok.tableau + c.args.vectors + 2 ≡ c.in-Ok.tableau.width
+width_is c = let D = first_is c in let r = D.rows in let w = D.width in let q = c.requires.width in omega arith
+
+wide_enough : (c : In-Ok) → rows_of c.in-Ok.tableau + c.args.vectors + 2 ≤ c.in-Ok.tableau.width
+wide_enough c = let w = width_is c in omega arith
+
+some_rows : (c : In-Ok) → 1 ≤ rows_of c.in-Ok.tableau
+some_rows c = let D = first_is c in let r = D.rows in let o = c.requires.row in omega arith
+
 pub first_columns-requires : goal.first_columns-requires
-first_columns-requires c = let D = first_done c.args.start c.in-Ok.tableau c.args.vectors (sym c.in-Ok.is ∙ c.bring_in_first.ensures.made) in let r = D.rows in
-    let w = D.width in let q = c.requires.width in let o = c.requires.row in omega arith
+first_columns-requires c = wide_enough (goal.at.first_columns-requires c).In-Ok
 
 pub is_settled-requires : goal.is_settled-requires
-is_settled-requires c = let D = first_done c.args.start c.in-Ok.tableau c.args.vectors (sym c.in-Ok.is ∙ c.bring_in_first.ensures.made) in let r = D.rows in
-    let w = D.width in let q = c.requires.width in let o = c.requires.row in omega arith
+is_settled-requires c = wide_enough (goal.at.is_settled-requires c).In-Ok
 
 pub inside-requires-clause-width : goal.inside-requires-clause-width
-inside-requires-clause-width c = let D = first_done c.args.start c.in-Ok.tableau c.args.vectors (sym c.in-Ok.is ∙ c.bring_in_first.ensures.made) in let r =
-    D.rows in let w = D.width in let q = c.requires.width in let o = c.requires.row in omega arith
+inside-requires-clause-width c = wide_enough (goal.at.inside-requires-clause-width c).In-Ok
 
 pub target_of-requires : goal.target_of-requires
-target_of-requires c = let D = first_done c.args.start c.in-Ok.tableau c.args.vectors (sym c.in-Ok.is ∙ c.bring_in_first.ensures.made) in let r = D.rows in
-    let w = D.width in let q = c.requires.width in let o = c.requires.row in omega arith
+target_of-requires c = wide_enough (goal.at.target_of-requires c).In-Ok
 
 pub open-requires-clause-width : goal.open-requires-clause-width
-open-requires-clause-width c = let D = first_done c.args.start c.in-Ok.tableau c.args.vectors (sym c.in-Ok.is ∙ c.bring_in_first.ensures.made) in let r =
-    D.rows in let w = D.width in let q = c.requires.width in let o = c.requires.row in omega arith
+open-requires-clause-width c = width_is (goal.at.open-requires-clause-width c).In-Ok
 
 pub open-requires-clause-row : goal.open-requires-clause-row
-open-requires-clause-row c = let D = first_done c.args.start c.in-Ok.tableau c.args.vectors (sym c.in-Ok.is ∙ c.bring_in_first.ensures.made) in let r =
-    D.rows in let w = D.width in let q = c.requires.width in let o = c.requires.row in omega arith
+open-requires-clause-row c = some_rows (goal.at.open-requires-clause-row c).In-Ok
 
 pub returns-then-is_settled : goal.returns-then-is_settled
 returns-then-is_settled c =
-    let D = first_done c.args.start c.in-Ok.tableau c.args.vectors (sym c.in-Ok.is ∙ c.bring_in_first.ensures.made) in
+    let D = first_is (goal.at.returns-then-is_settled c).In-Ok in
     settled_weighed (problem c.args.start c.args.vectors c.args.d) c.args.budget c.in-Ok.tableau c.deref.result.now c.new-steps.result c.inside.result
     c.new-steps.ensures D.owes D.table (sym c.is_settled.ensures ∙ c.if-is_settled.true) (c.deref.ensures.value
     ∙ c.in-Ok-first_columns.ensures) c.inside.ensures
 
 pub open-requires-clause-free : goal.open-requires-clause-free
-open-requires-clause-free c = let D = first_done c.args.start c.in-Ok.tableau c.args.vectors (sym c.in-Ok.is ∙ c.bring_in_first.ensures.made) in
+open-requires-clause-free c = let D = first_is (goal.at.open-requires-clause-free c).In-Ok in
     last_free c.args.start c.in-Ok.tableau c.args.vectors D.table c.requires.units c.requires.width
 
 pub returns-in-Err-open : goal.returns-in-Err-open
 returns-in-Err-open c =
-    let D = first_done c.args.start c.in-Ok.tableau c.args.vectors (sym c.in-Ok.is ∙ c.bring_in_first.ensures.made) in
+    let D = first_is (goal.at.returns-in-Err-open c).In-Ok in
     subst (IsPlaceAnswer (problem c.args.start c.args.vectors c.args.d) c.args.budget) (sym c.wide-in-Err-open.ensures)
     (wide_open (problem c.args.start c.args.vectors c.args.d) c.args.budget c.new-steps.result c.in-Err-open.op c.new-steps.ensures D.owes
     (ap (λ (t : Table). is_settled t c.args.vectors) (sym D.table) ∙ sym c.is_settled.ensures ∙ c.if-is_settled.false)
@@ -63,7 +71,7 @@ returns-in-Err-open c =
 
 pub loop-tableau-init : goal.loop-tableau-init
 loop-tableau-init c =
-    let D = first_done c.args.start c.in-Ok.tableau c.args.vectors (sym c.in-Ok.is ∙ c.bring_in_first.ensures.made) in
+    let D = first_is (goal.at.loop-tableau-init c).In-Ok in
     let o = no_error c.open.result (opened_ops c.in-Ok.tableau c.args.vectors) c.open.ensures.refused (λ e h. c.in_default-open.not-Err e h) in
     at_start (problem c.args.start c.args.vectors c.args.d) c.args.budget c.in-Ok.tableau c.open.new.tableau c.in-Ok-first_columns.firsts.items
     c.in-Ok-ranks.ranks.items c.new-steps.result c.new-steps.ensures D.owes D.table
@@ -80,7 +88,7 @@ returns-then-is_inside c =
 
 pub outside-requires-clause-columns : goal.outside-requires-clause-columns
 outside-requires-clause-columns c =
-    let D = first_done c.args.start c.in-Ok.tableau c.args.vectors (sym c.in-Ok.is ∙ c.bring_in_first.ensures.made) in
+    let D = first_is (goal.at.outside-requires-clause-columns c).In-Ok in
     firsts_columns c.in-Ok.tableau c.loop-tableau.tableau c.args.vectors c.deref-in_default-entering.result.now (c.deref-in_default-entering.ensures.value
     ∙ c.in-Ok-first_columns.ensures) (let r = D.rows in let w = D.width in let q = c.requires.width in omega arith) (c.loop-tableau.invariant.width
     ∙ sym D.width)
@@ -101,7 +109,7 @@ returns-then-len-budget c =
 
 pub step-requires-clause-columns : goal.step-requires-clause-columns
 step-requires-clause-columns c =
-    let D = first_done c.args.start c.in-Ok.tableau c.args.vectors (sym c.in-Ok.is ∙ c.bring_in_first.ensures.made) in
+    let D = first_is (goal.at.step-requires-clause-columns c).In-Ok in
     let cs = firsts_columns c.in-Ok.tableau c.loop-tableau.tableau c.args.vectors c.in-Ok-first_columns.firsts.items c.in-Ok-first_columns.ensures
     (let r = D.rows in let w = D.width in let q = c.requires.width in omega arith) (c.loop-tableau.invariant.width ∙ sym D.width) in
     ranks_columns c.loop-tableau.tableau c.args.vectors c.in-Ok-first_columns.firsts.items c.deref-in-loop-tableau-2.result.now

@@ -2,8 +2,8 @@ use Rattle.std.proofs.Common.{◌≡◌, ◌<◌, ◌≤◌, length, rules, to_z
 use Rattle.std.specs.Int.{w128}
 use Rattle.std.proofs.lemmas.Int.{to_z-of_z}
 use Rattle.std.proofs.lemmas.Result.{err_from_is_err_and}
-use Rattle.matrix_text.proofs.Clearings.{denominator_more, denominator_fails, denominator_done, denominator_whole, product_positive, product_narrow, row_after}
-use Rattle.matrix_text.proofs.Clearings.{column_after}
+use Rattle.matrix_text.proofs.Clearings.{denominator_more, denominator_fails, denominator_done, denominator_whole, product_positive, product_narrow}
+use Rattle.matrix_text.proofs.Clearings.{within_after}
 use Rattle.matrix_text.proofs.clearing.common_denominator.Goals as goal
 
 pub returns-in_err-common-clause-wide : goal.returns-in_err-common-clause-wide
@@ -11,7 +11,7 @@ returns-in_err-common-clause-wide c =
     let p = err_from_is_err_and c.from_residual.result c.from_residual.ensures.1 in
     let w = c.in_err-common.ensures.wide in
     let value = c.lower-entry-items.ensures.value in
-    let inside : c.loop-entry.entry-index < length c.args.a.now.lower = rw value at c.loop-entry-test.true in
+    let inside = rw value at c.loop-entry-test.true in
     let is = rw value at c.entry-item.is in
     rw (p.1, p.2, w.1)
     (sym (denominator_whole c.args.a.now c.lower-entry-items.ensures.matrix) ∙ sym c.loop-entry.invariant.left
@@ -21,7 +21,7 @@ returns-in_err-common-clause-wide c =
 pub loop-entry-preserved : goal.loop-entry-preserved
 loop-entry-preserved c =
     let value = c.lower-entry-items.ensures.value in
-    let inside : c.loop-entry.entry-index < length c.args.a.now.lower = rw value at c.loop-entry-test.true in
+    let inside = rw value at c.loop-entry-test.true in
     let is = rw value at c.entry-item.is in
     let ok = c.in_ok-common.ensures.ok in
     let fits : to_z w128 (of_z w128 c.in_ok-common.common) ≡ c.in_ok-common.common = search (rules, to_z-of_z) in
@@ -35,8 +35,7 @@ loop-entry-preserved c =
       left = rw fits left;
       positive = rw fits positive;
       fits = rw fits narrow;
-      row = row_after c.loop-entry.place c.next-place.result c.loop-entry.entry-index c.next-place.ensures c.loop-entry.invariant.row;
-      column = column_after c.loop-entry.place c.next-place.result c.next-place.ensures c.loop-entry.invariant.column;
+      place = within_after _ _ _ c.next-place.ensures c.loop-entry.invariant.place;
     }
 
 pub returns-clause-ok : goal.returns-clause-ok

@@ -4,7 +4,7 @@ use Rattle.std.proofs.lemmas.Int.{to_z-of_z}
 use Rattle.std.proofs.lemmas.Result.{err_from_is_err_and}
 use Rattle.matrix_text.specs.Clearing.{numerators_over}
 use Rattle.matrix_text.proofs.Clearings.{numerator_more, numerator_fails, numerator_done, numerator_whole, over_none, over_more, over_all, narrow_more}
-use Rattle.matrix_text.proofs.Clearings.{product_narrow, row_after, column_after}
+use Rattle.matrix_text.proofs.Clearings.{product_narrow, within_after}
 use Rattle.matrix_text.proofs.clearing.numerators.Goals as goal
 
 pub loop-entry-init : goal.loop-entry-init
@@ -12,8 +12,7 @@ loop-entry-init c = record {
   left = refl;
   so_far = over_none (nat_abs (to_z w128 (of_z w128 c.args.denominator))) c.args.a.now.lower c.new-lower.result.items c.new-lower.ensures.items;
   fits = λ k lt. absurd (let len = ap length c.new-lower.ensures.items in omega (arith, len));
-  row = omega arith;
-  column = omega arith;
+  place = record { row = omega arith; column = omega arith };
 }
 
 pub returns-in_err-numerator_at-clause-wide : goal.returns-in_err-numerator_at-clause-wide
@@ -23,7 +22,7 @@ returns-in_err-numerator_at-clause-wide c =
     let w = rw same at c.in_err-numerator_at.ensures.wide in
     let left = rw same at c.loop-entry.invariant.left in
     let value = c.lower-entry-items.ensures.value in
-    let inside : c.loop-entry.entry-index < length c.args.a.now.lower = rw value at c.loop-entry-test.true in
+    let inside = rw value at c.loop-entry-test.true in
     let is = rw value at c.entry-item.is in
     rw (p.1, p.2, w.1)
     (sym (numerator_whole c.args.a.now (nat_abs c.args.denominator) (numerators_over (nat_abs c.args.denominator) c.args.a.now.lower)
@@ -35,7 +34,7 @@ pub loop-entry-preserved : goal.loop-entry-preserved
 loop-entry-preserved c =
     let d = nat_abs (to_z w128 (of_z w128 c.args.denominator)) in
     let value = c.lower-entry-items.ensures.value in
-    let inside : c.loop-entry.entry-index < length c.args.a.now.lower = rw value at c.loop-entry-test.true in
+    let inside = rw value at c.loop-entry-test.true in
     let is = rw value at c.entry-item.is in
     let ok = c.in_ok-numerator_at.ensures.ok in
     let fits : to_z w128 (of_z w128 c.in_ok-numerator_at.field-0) ≡ c.in_ok-numerator_at.field-0 = search (rules, to_z-of_z) in
@@ -50,8 +49,7 @@ loop-entry-preserved c =
           c.loop-entry.invariant.so_far pushed;
       fits = narrow_more c.loop-entry.lower.items c.push.new.self.items c.in_ok-numerator_at.field-0 pushed
           (product_narrow c.entry-item.result.num _ c.in_ok-numerator_at.field-0 ok.0 ok.1) c.loop-entry.invariant.fits;
-      row = row_after c.loop-entry.place c.next-place.result c.loop-entry.entry-index c.next-place.ensures c.loop-entry.invariant.row;
-      column = column_after c.loop-entry.place c.next-place.result c.next-place.ensures c.loop-entry.invariant.column;
+      place = within_after _ _ _ c.next-place.ensures c.loop-entry.invariant.place;
     }
 
 pub returns-clause-ok : goal.returns-clause-ok

@@ -2,7 +2,7 @@ use Rattle.std.proofs.Common.{◌≡◌, ◌++◌, ◌∙◌, rules, arith, ap, 
 use Rattle.std.specs.Int.{w128}
 use Rattle.std.specs.Fmt.{decimal, signed_decimal}
 use Rattle.std.proofs.lemmas.Int.{to_z-of_z}
-use Rattle.text_lines.proofs.Written.{Extends-append, Extends-then}
+use Rattle.text_lines.proofs.Written.{Extends-append, Extends-then, still_kept}
 use Rattle.matrix_text.proofs.Written.{begin, begun, begun_more, begun_end}
 use Rattle.matrix_text.proofs.writing.push_matrix.Goals as goal
 
@@ -26,14 +26,11 @@ pub loop-row-preserved : goal.loop-row-preserved
 loop-row-preserved c = record {
   so_far = begun_more c.args.a.now c.loop-row.row c.args.into.now.items c.loop-row.into.items c.push_row.new.into.items c.loop-row.invariant.so_far
       c.in_ok-push_row.ensures.ok;
-  kept = Extends-then c.args.into.now.items c.loop-row.into.items c.push_row.new.into.items c.loop-row.invariant.kept c.push_row.ensures.kept;
+  kept = still_kept _ _ _ _ c.loop-row.invariant c.push_row.ensures.kept;
 }
 
 pub returns-clause-ok : goal.returns-clause-ok
 returns-clause-ok c =
-    let n = c.n-row-end.ensures.value in
-    let test = c.loop-row-test.false in
-    let auto = c.loop-row.auto.row-end in
-    let all : c.loop-row.row ≡ c.args.a.now.size = omega (arith, n, test, auto) in
+    let all : c.loop-row.row ≡ c.args.a.now.size = omega arith in
     begun_end c.args.a.now c.args.into.now.items c.loop-row.into.items (c.loop-row.invariant.so_far
     ∙ ap (λ k. c.args.into.now.items ++ begun c.args.a.now k) all)

@@ -1,7 +1,7 @@
 use Rattle.std.proofs.Common.{◌≡◌, ◌++◌, ◌∙◌, ◌+◌, ◌-◌, refl, arith, ap}
 use Rattle.matrix_text.specs.RationalMatrix.{rational_entry}
 use Rattle.text_lines.specs.Spelling.{fraction_word}
-use Rattle.text_lines.proofs.Written.{Extends-same, Extends-then, columns, column_none, column_more}
+use Rattle.text_lines.proofs.Written.{Extends-same, still_kept, columns, column_none, column_more}
 use Rattle.matrix_text.proofs.Written.{row_word, row_end}
 use Rattle.matrix_text.proofs.writing.push_row.Goals as goal
 
@@ -17,15 +17,12 @@ loop-column-preserved c =
     record {
       so_far = column_more (row_word (λ j. rational_entry c.args.a.now c.args.row j)) c.loop-column.column (fraction_word c.entry.result) c.args.into.now.items
           c.loop-column.into.items c.push_column.new.into.items (ap fraction_word is) c.loop-column.invariant.so_far c.in_ok-push_column.ensures.ok;
-      kept = Extends-then c.args.into.now.items c.loop-column.into.items c.push_column.new.into.items c.loop-column.invariant.kept c.push_column.ensures.kept;
+      kept = still_kept _ _ _ _ c.loop-column.invariant c.push_column.ensures.kept;
     }
 
 pub returns-clause-ok : goal.returns-clause-ok
 returns-clause-ok c =
-    let n = c.n-column-end.ensures.value in
-    let test = c.loop-column-test.false in
-    let auto = c.loop-column.auto.column-end in
-    let all : c.loop-column.column ≡ c.args.a.now.size = omega (arith, n, test, auto) in
+    let all : c.loop-column.column ≡ c.args.a.now.size = omega arith in
     row_end (λ j. rational_entry c.args.a.now c.args.row j) c.args.a.now.size c.args.into.now.items c.loop-column.into.items c.push.new.self.items
     (c.loop-column.invariant.so_far ∙ ap (λ k. c.args.into.now.items ++ columns (row_word (λ j. rational_entry c.args.a.now c.args.row j)) k) all)
     c.in_ok-push.ensures.items

@@ -65,17 +65,17 @@ returns-in-Wide-clause-part g c =
 
 pub returns-in-Ok-clause-part : goal.returns-in-Ok-clause-part
 returns-in-Ok-clause-part g c =
+    let T = task c.args.s.now c.args.d c.args.limits.depth in
+    let σ = with_exchanges T c.args.now.now c.args.trail.now.searched c.in-Outside.steps in
     let at = (goal.at.returns-in-Ok-clause-part g c).After-steps_left-budget in
     let here = placed.Outside c.in-Outside.zeros c.in-Outside.leaving c.in-Outside.steps in
     let A = answer_here g at here c.in-Outside.ensures.answer in
     let O = outside_with _ _ _ _ _ (start_here g at) c.turn_outside.new.trail c.in-Outside.steps A.0 c.in-Outside.zeros c.in-Outside.leaving A
     (ruled_as c.args.now.now.vectors c.args.s.now _ c.args.d (to_z-of_z w128 c.args.d c.ranges.d) here c.in-Outside.ensures.rule) in
     outside_part _ _ _ _ _ (start_here g at) c.turn_outside.new.trail c.in-Outside.steps A.0 _ c.turn_outside.result c.in-Ok.ensures.ok
-    (c.turn_outside.ensures.part (task c.args.s.now c.args.d c.args.limits.depth)
-    (with_exchanges (task c.args.s.now c.args.d c.args.limits.depth) c.args.now.now c.args.trail.now.searched c.in-Outside.steps)
+    (c.turn_outside.ensures.part T σ
     (record { matrix = refl; depth = refl; visit = refl; searched = refl }) (sym (to_z-of_z w128 c.args.d c.ranges.d))
-    (subst (λ (zs : List ℕ). IsOutsideWith (task c.args.s.now c.args.d c.args.limits.depth)
-    (with_exchanges (task c.args.s.now c.args.d c.args.limits.depth) c.args.now.now c.args.trail.now.searched c.in-Outside.steps) zs c.in-Outside.leaving)
+    (subst (λ (zs : List ℕ). IsOutsideWith T σ zs c.in-Outside.leaving)
     (sym c.as_slice.ensures) O))
 
 pub returns-in-Outside-clause-part : goal.returns-in-Outside-clause-part

@@ -1,15 +1,9 @@
-use Rattle.std.specs.Prelude.{◌≤◌}
-use Rattle.symmetric_matrix.specs.Symmetric.{entry}
-use Rattle.serial_search.proofs.Stacks.{IsSearching, cones_left}
-use Rattle.serial_search.proofs.Tops.{AreDeep}
+use Rattle.serial_search.proofs.Stacks.{cones_left}
+use Rattle.serial_search.proofs.Loops.{IsSearchLoop}
 use Rattle.serial_search.proofs.narrow_search.search_over.Given as goal
 
 abbrev pub invariant-loop-mode : goal.invariant-loop-mode
-invariant-loop-mode l = record {
-  searching : IsSearching l.mode l.q.size (entry l.q) l.limit l.arena.cones l.word l.fresh l.judged.items;
-  deep : AreDeep 0 l.arena.cones;
-  room : l.limit ≤ l.arena.depth;
-}
+invariant-loop-mode l = record { loop : IsSearchLoop l.mode l.q l.limit l.arena l.word l.fresh l.judged.items }
 
 abbrev pub decreases-loop-mode : goal.decreases-loop-mode
 decreases-loop-mode l = cones_left l.limit l.arena.cones

@@ -1,44 +1,34 @@
-use Rattle.std.proofs.Common.{arith, sym, subst}
-use Rattle.serial_search.proofs.Tops.{AreDeep, may_turn, deep_turned}
-use Rattle.serial_search.proofs.Stacks.{search_starts, search_turns, search_ends, top_within, top_named, no_items}
+use Rattle.std.proofs.Common.{arith}
+use Rattle.serial_search.proofs.Stacks.{no_items}
+use Rattle.serial_search.proofs.Loops.{loop_starts, loop_ends, loop_within, loop_named, loop_may_turn, loop_turns}
 use Rattle.serial_search.proofs.short.search_in_turns.Goals as goal
 
 pub loop-init : goal.loop-init
-loop-init c = record {
-  searching = rw (c.requires.root.alone, c.start_word-word.ensures, c.new-judged.ensures.items) (search_starts _ _ _ _ _ c.requires.root.is_root);
-  deep = subst (AreDeep 0) (sym c.requires.root.alone) (omega arith, tt);
-  room = c.requires.room;
-}
+loop-init c =
+    record { loop = rw (c.start_word-word.ensures, c.new-judged.ensures.items) (loop_starts _ c.args.q.now _ c.args.arena.now c.requires.root c.requires.room) }
 
 pub lowering_fate-fate-requires-clause-within : goal.lowering_fate-fate-requires-clause-within
-lowering_fate-fate-requires-clause-within c = top_within _ _ _ _ _ c.top-cone.ensures.top.0 _ _ _ _ c.loop.invariant.searching c.top-cone.ensures.top.1
+lowering_fate-fate-requires-clause-within c = loop_within c.loop.invariant.loop c.top-cone.ensures.top.0 _ c.top-cone.ensures.top.1
 
 pub keep_fate-requires-clause-below_code : goal.keep_fate-requires-clause-below_code
 keep_fate-requires-clause-below_code c = omega (arith, c.lowering_fate-fate.ensures.word)
 
 pub keep_fate-requires-clause-within : goal.keep_fate-requires-clause-within
-keep_fate-requires-clause-within c = top_within _ _ _ _ _ c.top-cone.ensures.top.0 _ _ _ _ c.loop.invariant.searching c.top-cone.ensures.top.1
+keep_fate-requires-clause-within c = loop_within c.loop.invariant.loop c.top-cone.ensures.top.0 _ c.top-cone.ensures.top.1
 
 pub keep_fate-requires-clause-named : goal.keep_fate-requires-clause-named
-keep_fate-requires-clause-named c = top_named _ _ _ _ _ c.top-cone.ensures.top.0 _ _ _ _ c.loop.invariant.searching c.top-cone.ensures.top.1
+keep_fate-requires-clause-named c = loop_named c.loop.invariant.loop c.top-cone.ensures.top.0 _ c.top-cone.ensures.top.1
 
 pub turn-requires-clause-may : goal.turn-requires-clause-may
-turn-requires-clause-may c =
-    may_turn c.args.mode c.loop.arena c.top-cone.ensures.top.0 c.top-cone.result.cone.now c.args.limit c.lowering_fate-fate.new.word
-    c.lowering_fate-fate.result c.top-cone.ensures.top.1 c.top-cone.ensures.size c.loop.invariant.deep c.loop.invariant.room
-    (top_within _ _ _ _ _ c.top-cone.ensures.top.0 _ _ _ _ c.loop.invariant.searching c.top-cone.ensures.top.1)
+turn-requires-clause-may c = loop_may_turn c.loop.invariant.loop c.top-cone.ensures.top.0 _ c.top-cone.ensures.top.1 _ _ c.top-cone.ensures.size
     c.lowering_fate-fate.ensures.fate
 
 pub loop-preserved : goal.loop-preserved
 loop-preserved c = record {
-  searching = rw c.after-fresh.ensures
-      (search_turns _ _ _ _ _ c.top-cone.ensures.top.0 _ c.top-cone.result.cone.now _ _ _ _ _ _ c.n-n.ensures.matrix.positive c.loop.invariant.searching
-      c.top-cone.ensures.top.1 c.lowering_fate-fate.ensures.word c.lowering_fate-fate.ensures.fate
-      (c.turn.ensures.turned c.top-cone.result.cone.now c.top-cone.ensures.top.0 c.top-cone.ensures.top.1) c.in_ok-keep_fate.ensures.kept);
-  deep = deep_turned c.loop.arena.cones c.top-cone.ensures.top.0 c.turn.new.arena.cones c.top-cone.result.cone.now _ c.loop.invariant.deep
-      c.top-cone.ensures.top.1 (c.turn.ensures.turned c.top-cone.result.cone.now c.top-cone.ensures.top.0 c.top-cone.ensures.top.1);
-  room = omega (arith, c.loop.invariant.room, c.turn.ensures.depth);
+  loop = rw c.after-fresh.ensures
+      (loop_turns c.loop.invariant.loop c.top-cone.ensures.top.0 _ c.top-cone.ensures.top.1 _ _ _ _ c.n-n.ensures.matrix.positive
+      c.lowering_fate-fate.ensures.word c.lowering_fate-fate.ensures.fate c.turn.ensures c.in_ok-keep_fate.ensures.kept).0;
 }
 
 pub returns-then-len-eq0 : goal.returns-then-len-eq0
-returns-then-len-eq0 c = search_ends _ _ _ _ _ _ _ _ (no_items c.loop.arena.cones (omega arith)) c.loop.invariant.searching
+returns-then-len-eq0 c = loop_ends c.loop.invariant.loop (no_items c.loop.arena.cones (omega arith))

@@ -3,15 +3,17 @@ use Rattle.std.specs.Int.{w128}
 use Rattle.std.proofs.Common.{arith, ◌∙◌}
 use Rattle.std.proofs.lemmas.Int.{ints, to_z-of_z}
 use Rattle.symmetric_matrix.specs.Symmetric.{entry}
-use Rattle.serial_search.proofs.Reached.{reachable, not_wide, within, low_is_due}
+use Rattle.unimodular_cone.proofs.Ways.{tree_reachable, tree_not_wide}
+use Rattle.serial_search.proofs.Reached.{within, low_is_due}
 use Rattle.serial_search.proofs.values.low_answer.Goals as goal
 
 pub at_path-requires : goal.at_path-requires
-at_path-requires c = reachable c.args.q.now.size (entry c.args.q.now) c.args.limit c.args.first.path c.requires.fits c.requires.first.path.in_tree
+at_path-requires c = tree_reachable c.args.q.now.size (entry c.args.q.now) c.args.limit c.args.first.path c.requires.fits c.requires.first.path.in_tree
 
 pub unreachable-requires : goal.unreachable-requires
 unreachable-requires c =
-    not_wide c.args.q.now.size (entry c.args.q.now) c.args.limit c.args.first.path _ c.requires.fits c.requires.first.path.in_tree c.in_default.ensures.wide
+    tree_not_wide c.args.q.now.size (entry c.args.q.now) c.args.limit c.args.first.path _ c.requires.fits c.requires.first.path.in_tree
+    c.in_default.ensures.wide
 
 pub generator-requires-clause-last : goal.generator-requires-clause-last
 generator-requires-clause-last c =

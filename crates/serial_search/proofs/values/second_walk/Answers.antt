@@ -11,19 +11,17 @@ use Rattle.search_core.specs.declared.Fate.{Fate}
 use Rattle.search_core.specs.declared.Fate.TheVariants.{Closed, Split, Low, Dropped, AtLimit, Wide}
 use Rattle.search_core.specs.Fair.{bound_under, IsEndFate}
 use Rattle.serial_search.specs.Turns.{IsOnTop, AreStacked}
-use Rattle.serial_search.proofs.Tops.{AreDeep, may_turn, top_there, deep_turned}
+use Rattle.serial_search.proofs.Tops.{may_turn, top_there}
+use Rattle.serial_search.proofs.WalkArenas.{walk_arena_starts, walk_arena_turns}
 use Rattle.serial_search.proofs.Stacks.{no_items}
-use Rattle.serial_search.proofs.Digits.{IsOnTheWay, walk_from_root, word_below_code, depth_is_due, wide_is_due, walks_on, walk_shortens, none_left}
+use Rattle.serial_search.proofs.Digits.{IsOnTheWay, IsWalkTurn, walk_from_root, word_below_code, depth_is_due, wide_is_due, walks_on, walk_shortens, none_left}
 use Rattle.serial_search.proofs.values.second_walk.Goals as goal
 
 pub loop-arena-init : goal.loop-arena-init
 loop-arena-init c = record {
   walking = rw c.requires.root.alone
       (walk_from_root c.args.q.now.size (entry c.args.q.now) c.args.limit (bound_under Mode.Least c.args.word) c.requires.root.root c.requires.root.is_root);
-  deep = subst (AreDeep 0) (sym c.requires.root.alone) (omega arith, tt);
-  size = refl;
-  depth = refl;
-  room = c.requires.room;
+  arena = walk_arena_starts c.args.limit c.args.arena.now c.requires.root.root c.requires.root.alone c.requires.room;
 }
 
 pub judge-fate-requires-clause-below_code : goal.judge-fate-requires-clause-below_code
@@ -44,7 +42,7 @@ turn-requires-clause-may c =
     let rest : List ShownCone = c.top-cone.ensures.top.0 in
     let top : IsOnTop c.top-cone.result.cone.now rest c.loop-arena.arena.cones = c.top-cone.ensures.top.1 in
     may_turn Mode.Least c.loop-arena.arena rest c.top-cone.result.cone.now c.args.limit c.args.word c.judge-fate.result top
-    c.top-cone.ensures.size c.loop-arena.invariant.deep c.loop-arena.invariant.room
+    c.top-cone.ensures.size c.loop-arena.invariant.arena.deep c.loop-arena.invariant.arena.room
     (c.loop-arena.invariant.walking.cones c.top-cone.result.cone.now (top_there c.loop-arena.arena.cones rest c.top-cone.result.cone.now top)).way.in_tree.short
     c.judge-fate.ensures
 
@@ -64,31 +62,42 @@ no_end c = by c.judge-fate.result refl
 
 pub loop-arena-smaller : goal.loop-arena-smaller
 loop-arena-smaller c =
-    walk_shortens c.args.q.now.size (entry c.args.q.now) c.args.limit c.args.word c.loop-arena.arena.cones c.top-cone.ensures.top.0 c.top-cone.result.cone.now
-    c.judge-fate.result c.requires.final_word c.loop-arena.invariant.walking c.top-cone.ensures.top.1 c.judge-fate.ensures c.turn.new.arena.cones (stacks c)
+    walk_shortens (record {
+      final = c.requires.final_word;
+      walking = c.loop-arena.invariant.walking;
+      popped = c.top-cone.ensures.top.1;
+      shown = c.judge-fate.ensures;
+    }) c.turn.new.arena.cones (stacks c)
 
 pub loop-arena-preserved : goal.loop-arena-preserved
 loop-arena-preserved c = record {
-  walking = walks_on c.args.q.now.size (entry c.args.q.now) c.args.limit c.args.word c.loop-arena.arena.cones c.top-cone.ensures.top.0
-      c.top-cone.result.cone.now c.judge-fate.result c.requires.final_word c.loop-arena.invariant.walking c.top-cone.ensures.top.1 c.judge-fate.ensures
-      c.turn.new.arena.cones (stacks c) (no_end c);
-  deep = deep_turned c.loop-arena.arena.cones c.top-cone.ensures.top.0 c.turn.new.arena.cones c.top-cone.result.cone.now _ c.loop-arena.invariant.deep
-      c.top-cone.ensures.top.1 (stacks c);
-  size = c.turn.ensures.size ∙ c.loop-arena.invariant.size;
-  depth = c.turn.ensures.depth ∙ c.loop-arena.invariant.depth;
-  room = omega (arith, c.loop-arena.invariant.room, c.turn.ensures.depth);
+  walking = walks_on (record {
+    final = c.requires.final_word;
+    walking = c.loop-arena.invariant.walking;
+    popped = c.top-cone.ensures.top.1;
+    shown = c.judge-fate.ensures;
+  }) c.turn.new.arena.cones (stacks c) (no_end c);
+  arena = walk_arena_turns c.top-cone.result.cone.now c.top-cone.ensures.top.0 c.loop-arena.invariant.arena c.top-cone.ensures.top.1 c.turn.ensures;
 }
 
 pub returns-in-AtLimit-clause-answer : goal.returns-in-AtLimit-clause-answer
 returns-in-AtLimit-clause-answer c =
     subst (λ (p : Path). IsSearchAnswer Mode.Least c.args.q.now.size (entry c.args.q.now) c.args.limit (SearchAnswer.Depth p)) (sym c.path.ensures)
-    (depth_is_due c.args.q.now.size (entry c.args.q.now) c.args.limit c.args.word c.loop-arena.arena.cones c.top-cone.ensures.top.0 c.top-cone.result.cone.now
-    c.judge-fate.result c.requires.final_word c.loop-arena.invariant.walking c.top-cone.ensures.top.1 c.judge-fate.ensures _ c.in-AtLimit.is)
+    (depth_is_due (record {
+      final = c.requires.final_word;
+      walking = c.loop-arena.invariant.walking;
+      popped = c.top-cone.ensures.top.1;
+      shown = c.judge-fate.ensures;
+    }) _ c.in-AtLimit.is)
 
 pub returns-in-Wide-clause-answer : goal.returns-in-Wide-clause-answer
 returns-in-Wide-clause-answer c =
-    wide_is_due c.args.q.now.size (entry c.args.q.now) c.args.limit c.args.word c.loop-arena.arena.cones c.top-cone.ensures.top.0 c.top-cone.result.cone.now
-    c.judge-fate.result c.requires.final_word c.loop-arena.invariant.walking c.top-cone.ensures.top.1 c.judge-fate.ensures _ c.in-Wide.at c.in-Wide.is
+    wide_is_due (record {
+      final = c.requires.final_word;
+      walking = c.loop-arena.invariant.walking;
+      popped = c.top-cone.ensures.top.1;
+      shown = c.judge-fate.ensures;
+    }) _ c.in-Wide.at c.in-Wide.is
 
 pub returns-clause-answer : goal.returns-clause-answer
 returns-clause-answer c =

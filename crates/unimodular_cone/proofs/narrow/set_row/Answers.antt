@@ -9,6 +9,5 @@ pub loop-k-preserved : goal.loop-k-preserved
 loop-k-preserved c =
     let size : length c.args.gram.now ≡ 36 = search rules in
     let f : FitsSigned w64 (slice_index_or c.args.row.now c.from.result (pos 0)) = search rules in
-    row_set_more c.args.r c.loop-k.k c.place_of.result c.args.gram.now c.args.row.now c.loop-k.gram _ c.loop-k.invariant size (omega arith) (omega arith)
-    c.place_of.ensures.place
+    row_set_more _ _ _ _ _ _ _ c.loop-k.invariant size (omega arith) (omega arith) c.place_of.ensures.place
     (to_z-of_z w64 _ f ∙ ap (λ (i : ℕ). slice_index_or c.args.row.now i (pos 0)) c.from.ensures)

@@ -1,4 +1,4 @@
-use Rattle.std.specs.Prelude.{◌≤◌, ◌≤ℤ◌, ◌^◌, pos, nat_abs}
+use Rattle.std.specs.Prelude.{◌≤◌, ◌^◌, nat_abs}
 use Rattle.std.proofs.Common.{arith, inl, refl, ◌∙◌}
 use Rattle.unimodular_cone.specs.Shown.{shown_gram}
 use Rattle.unimodular_cone.proofs.NarrowSums.{read_64}

@@ -1,11 +1,9 @@
-use Rattle.std.specs.Prelude.{◌≡◌, ◌≤◌, ◌+◌, ◌^◌, ℕ, nat_abs, Option}
+use Rattle.std.specs.Prelude.{◌≡◌, ◌≤◌, ◌+◌, ◌^◌, ℕ, nat_abs}
 use Rattle.std.specs.Int.{w64}
-use Rattle.std.proofs.Common.{arith, sym, ◌∙◌, ap, to_z, of_z}
-use Rattle.unimodular_cone.specs.BestPair.{best_pair}
-use Rattle.unimodular_cone.specs.Cones.{lesser_pair}
+use Rattle.std.proofs.Common.{arith, sym, to_z, of_z}
 use Rattle.unimodular_cone.specs.Shown.{shown_gram}
 use Rattle.unimodular_cone.proofs.NarrowSums.{read_64}
-use Rattle.unimodular_cone.proofs.BestPairs.{better_is_best, better_pair, row_start, row_more}
+use Rattle.unimodular_cone.proofs.BestPairs.{row_start, best_more}
 use Rattle.unimodular_cone.proofs.narrow_pair.best_beyond.Goals as goal
 
 pub loop-column-init : goal.loop-column-init
@@ -15,11 +13,4 @@ pub loop-column-preserved : goal.loop-column-preserved
 loop-column-preserved c =
     let small : nat_abs (shown_gram c.args.c.now c.args.row c.loop-column.column) ≤ 2 ^ 59 = rw (← c.entry.ensures.value) c.entry.ensures.narrow in
     let e : to_z w64 (of_z w64 c.entry.result) ≡ shown_gram c.args.c.now c.args.row c.loop-column.column = read_64 _ _ c.entry.ensures.value small in
-    record {
-      best = rw c.better_of-best.ensures (better_is_best _ _ _ _ _ e c.loop-column.invariant.best);
-      pair =
-          ap best_pair c.better_of-best.ensures
-          ∙ better_pair _ _ _ _ _ e c.loop-column.invariant.best
-          ∙ ap (λ (b : Option (ℕ × ℕ)). lesser_pair (shown_gram c.args.c.now) b c.args.row c.loop-column.column) c.loop-column.invariant.pair
-          ∙ sym (row_more (shown_gram c.args.c.now) c.args.row c.loop-column.column _ (omega arith));
-    }
+    best_more _ _ _ _ _ _ _ c.better_of-best.ensures e (omega arith) c.loop-column.invariant

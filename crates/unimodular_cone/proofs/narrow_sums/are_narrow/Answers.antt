@@ -1,4 +1,4 @@
-use Rattle.std.specs.Prelude.{◌≡◌, ◌<◌, ◌≤◌, ◌^◌, ◌+ℤ◌, ◌↔◌, IsTrue, ℕ, ℤ, pos, nat_abs, List, slice_index_or}
+use Rattle.std.specs.Prelude.{◌<◌, ◌≤◌, ◌^◌, ◌+ℤ◌, ◌↔◌, IsTrue, ℕ, ℤ, pos, nat_abs, List, slice_index_or}
 use Rattle.std.proofs.Common.{arith, ap, refl, subst}
 use Rattle.unimodular_cone.proofs.NarrowSums.{sum_64, mediant_narrow, square_narrow, not_too_wide, is_not_too_wide}
 use Rattle.unimodular_cone.proofs.narrow_sums.are_narrow.Goals as goal

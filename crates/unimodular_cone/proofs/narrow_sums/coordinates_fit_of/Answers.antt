@@ -1,4 +1,4 @@
-use Rattle.std.specs.Prelude.{◌≡◌, ◌<◌, ℕ, slice_index_or}
+use Rattle.std.specs.Prelude.{◌<◌, ℕ, slice_index_or}
 use Rattle.std.proofs.Common.{arith}
 use Rattle.unimodular_cone.proofs.Limits.{IsWideCoordinate, mediant_mirror}
 use Rattle.unimodular_cone.proofs.NarrowChildren.{coordinates_decide}

@@ -1,8 +1,8 @@
-use Rattle.std.specs.Prelude.{◌≡◌, ◌-◌, ◌+◌}
+use Rattle.std.specs.Prelude.{◌≡◌}
 use Rattle.std.proofs.Common.{arith, rules}
 use Rattle.unimodular_cone.specs.Cones.{IsPair}
 use Rattle.unimodular_cone.specs.Shown.{shown_gram}
-use Rattle.unimodular_cone.proofs.BestPairs.{best_is_pair, best_is_none, tested_negative, tested_not_negative}
+use Rattle.unimodular_cone.proofs.BestPairs.{best_is_pair, best_is_none, named_from_one, tested_negative, tested_not_negative}
 use Rattle.unimodular_cone.proofs.pair_rule.pair_of.Given.{Over}
 use Rattle.unimodular_cone.proofs.pair_rule.pair_of.Goals.{Then-best-lt0}
 use Rattle.unimodular_cone.proofs.pair_rule.pair_of.Goals as goal
@@ -29,10 +29,7 @@ overflow_cast-result-then-best-lt0 g c =
 
 pub returns-then-best-lt0 : goal.returns-then-best-lt0
 returns-then-best-lt0 g c =
-    let p = pair g (goal.at.returns-then-best-lt0 g c).Then-best-lt0 in
-    let row : c.loop-row.best.row + 1 - 1 ≡ c.loop-row.best.row = omega arith in
-    let column : c.loop-row.best.column + 1 - 1 ≡ c.loop-row.best.column = omega arith in
-    (omega arith, rw (row, column) p)
+    (omega arith, named_from_one _ _ _ _ (pair g (goal.at.returns-then-best-lt0 g c).Then-best-lt0))
 
 pub returns-else-best-lt0 : goal.returns-else-best-lt0
 returns-else-best-lt0 g c =

@@ -1,11 +1,7 @@
-use Rattle.std.specs.Prelude.{◌≡◌}
-use Rattle.unimodular_cone.specs.BestPair.{best_pair, IsBestOf}
 use Rattle.unimodular_cone.specs.Cones.{best_in_rows}
 use Rattle.unimodular_cone.specs.Shown.{shown_gram}
+use Rattle.unimodular_cone.proofs.BestPairs.{IsBestSoFar}
 use Rattle.unimodular_cone.proofs.pair_rule.pair_of.Given as goal
 
 abbrev pub invariant-loop-row : goal.invariant-loop-row
-invariant-loop-row g l = record {
-  best : IsBestOf (shown_gram (g.C.ConeRead.cone l.c)) l.best;
-  pair : best_pair l.best ≡ best_in_rows (shown_gram (g.C.ConeRead.cone l.c)) l.n l.row;
-}
+invariant-loop-row g l = IsBestSoFar (shown_gram (g.C.ConeRead.cone l.c)) l.best (best_in_rows (shown_gram (g.C.ConeRead.cone l.c)) l.n l.row)

@@ -10,11 +10,10 @@ use mir.MapTy.{inst_fn}
 use mir.Val.{Val, vptr, vint}
 use base.Logic.{SProp, ent, never, id⊢}
 use base.Fml.{Lft, Share, ftrue, fat, flft}
-use prog.Wp.{Env, Calls, Loops, WpFn, Tables}
+use prog.Wp.{Env, Calls, Loops, WpFn}
 use types.Logic.{Logic}
 use contract.Monad.{fact}
-use contract.Running.{tables, tables_of}
-use sound.WpLaws.{WpFn-mono}
+use contract.Running.{tables}
 use types.Kit.{Item, ⋆, ‵, ◌⊛◌, at_ret, ◌$◌, ◌∵◌, !, qed, by, move, keep, drop, use1, split, join, rewrite, fsplit, fjoin, feq_i, feq_l, suffices, frame, done}
 use types.Part.{whole, sub}
 use types.Run.{stop, fld, of_opd, addr, first, blocks, exec, returns, enter}
@@ -29,12 +28,9 @@ use denote.Builtin.{RefOf}
 use denote.Signature.{plain}
 use denote.Opens.{hide, unhide}
 use denote.Steps.{nothing}
-use denote.Triple.Carry.{spared}
-use denote.Triple.Clauses.{Clauses, Ended, closing}
+use denote.Triple.Clauses.{Clauses, Ended}
 use denote.Triple.Entry.{on_entry}
-use denote.Triple.Spec.{Meets, triple_of}
-use denote.Triple.Table.{entered, run_framed}
-use denote.Triple.Walked.{says, needs, Stays, stay_dropped, walk_of, ends_at, Goes-dropped, walk_Meets}
+use denote.Triple.Walked.{says, needs, Stays, stay_dropped, walk_of, ends_at, Goes-dropped}
 use Rattle.std_alloc.proofs.VecSteps.Shapes.{after}
 use Rattle.std_alloc.proofs.RcSteps.{word, word-Good}
 use lib.ListN.{length, get_or}
@@ -44,10 +40,10 @@ use types.ByLocal.{take_at, give_at}
 use denote.Builtin.{usize}
 use Rattle.std.specs.Prelude.{Some, None}
 use Rattle.core.proofs.mem.Param.{El, R, args, el_x}
-use Rattle.core.proofs.ptr.Rows.{times_below, one_below}
 use Rattle.circular_buffer.specs.Places.{IsFilled}
 use Rattle.circular_buffer.specs.Ownership.{slot_lent, cells_lent}
-use Rattle.cone_arena.proofs.Memory.{Cr, Bs, sz, Place, word_had, filled_within, slot_seen}
+use Rattle.cone_arena.proofs.Memory.{Cr, Bs, sz, size_fits, offset_fits, Place, word_had, filled_within, slot_seen}
+use Rattle.cone_arena.proofs.Walks.{proved_beside}
 use Rattle.cone_arena.specs.contracts.cells.Cells.get.Key.{name as #self}
 use Rattle.cone_arena.proofs.cells.Cells.get.Statement as stated
 use Rattle.cone_arena.proofs.cells.Cells.get.Code as code
@@ -114,8 +110,7 @@ module _ (E : El) {M : Type 1} {𝓤 : Ura M} (𝓛 : Logic 𝓤) (C : Calls �
       (λ l. pass_all ! refl ((tt, tt), (word-Good [] base.ptr, ((tt, record { fits = fits_index }), tt))) $
       let En : Env 𝓤 H = env (function E).locals l in
       unhide ! $ fsplit ! $ drop ! $ in_a_block ! d.at (λ p. cells_lent (R E) p d.slots κ) (id⊢ 𝓤 (never 𝓤)) (λ b o e. fsplit ! $ flt_l ! (λ small.
-      let s = sz E in let tiny : s < 2 ^ 64 = omega (arith, one_below (length d.slots) s (2 ^ 63) (omega arith) small) in
-      let far : index * s < 2 ^ 64 = omega (arith, times_below index (length d.slots) s (2 ^ 63) (omega arith) small) in
+      let s = sz E in let tiny = size_fits E (length d.slots) index within small in let far = offset_fits E (length d.slots) index within small in
       take_at ! 2 $ rewrite ! 0 (λ (p : Ptr). ‵ (fat full_share (layout (Bs E)) (l 2) 0 (word p))) (asked.0 ∙ e) refl $ give_at ! 2 $ first ! $ blocks ! $
       sets ! (bin ! (get ! refl) (size_lit ! (record { fits = tiny })) (record { fits = far })) refl (tt, record { fits = far }) $
       sets ! (bin ! (get_in ! (fld ! refl (stop !)) (sub ! 0 refl (whole !))) (get ! refl) tt) refl (tt, tt) $
@@ -144,24 +139,15 @@ module _ (E : El) {M : Type 1} {𝓤 : Ura M} (𝓛 : Logic 𝓤) (C : Calls �
       by ! (subst (λ (ws : List Val × List Val × List Val). ent 𝓤 (⋆ 𝓛 Had) (WpFn 𝓤 H C Λ (function E) (ws.0 ++ (ws.1 ++ (ws.2 ++ []))) Post))
       (λ j. (sym e0 j, sym e1 j, sym e2 j)) (walk asked fits_index))))))
 
-meets : (E : El) {M : Type 1} {𝓤 : Ura M} (𝓛 : Logic 𝓤) (𝓣 : Tables 𝓤 𝓛.H)
-    → Meets 𝓛 (ended E).signature (WpFn 𝓤 𝓛.H 𝓣.C 𝓣.Λ (function E)) (closing 𝓛 (ended E) (spec E 𝓛))
-meets E {𝓤 = 𝓤} 𝓛 𝓣 =
-    walk_Meets 𝓛 (ended E) (stayed E) (
-      Goes-dropped 𝓛 1 (RefOf (0 ∷ []) tt (plain (λ _. Cr E)) (λ _. tt)) yes (λ κs x f. refl),
-      (Goes-dropped 𝓛 1 (plain (λ _. Bs E)) no (λ κs x f. refl), (Goes-dropped 𝓛 1 (plain (λ _. usize)) no (λ κs x f. refl), tt)),
-    ) (spec E 𝓛)
-    (WpFn 𝓤 𝓛.H 𝓣.C 𝓣.Λ (function E)) (WpFn-mono 𝓤 𝓛.H 𝓛.laws 𝓣 (function E))
-    (λ z. needs 𝓤 (Asks E z.0.3.0.now z.0.3.1.0 z.0.3.1.1.0) _
-    (entry E 𝓛 𝓣.C 𝓣.Λ z.0.0.0 z.0.1.0 z.0.3.0.ref_ptr.0 z.0.3.0.ref_ptr.1 z.0.3.0.now z.0.3.1.0 z.0.3.1.1.0 z.0.4.0 z.0.4.1.0 z.0.4.1.1.0))
-
 pub get_spec : {M : Type 1} → stated.statement M
-unfolding tables_of
 get_spec 𝓤 𝓛 𝓜 𝓡 wired X LX y =
     let E : El = record { row = X; laws = LX } in
-    let 𝓣 : Tables 𝓤 𝓛.H = tables_of 𝓤 𝓛.H 𝓜 (tables 𝓤 𝓛.H 𝓜 𝓡 𝓡.env) in
-    let k = #self (args E) in
-    spared 𝓛 (ended E).signature (𝓡.run (𝓡.env k)) (run_framed 𝓤 𝓛.H 𝓜 𝓡 (𝓡.env k)) 1 (X.lives, tt) (closing 𝓛 (ended E) (spec E 𝓛))
-    (entered 𝓤 𝓛.H (triple_of 𝓛 (ended E).signature (closing 𝓛 (ended E) (spec E 𝓛))) 𝓣.C 𝓣.Λ k (function E) (code.unfolded 𝓤 𝓛.H 𝓜 𝓡 wired (X, tt))
-    (meets E 𝓛 𝓣))
-    ((y.0.0, y.0.1, tt, y.0.3, y.0.4), y.1)
+    let 𝓣 = tables 𝓤 𝓛.H 𝓜 𝓡 𝓡.env in
+    proved_beside 𝓛 (ended E) (stayed E) (spec E 𝓛) 𝓜 𝓡 X.lives (
+      Goes-dropped 𝓛 1 (RefOf (0 ∷ []) tt (plain (λ _. Cr E)) (λ _. tt)) yes (λ κs x f. refl),
+      (Goes-dropped 𝓛 1 (plain (λ _. Bs E)) no (λ κs x f. refl), (Goes-dropped 𝓛 1 (plain (λ _. usize)) no (λ κs x f. refl), tt)),
+    )
+    (#self (args E)) (function E) (code.unfolded 𝓤 𝓛.H 𝓜 𝓡 wired (X, tt)) (λ z.
+    needs 𝓤 (Asks E z.0.3.0.now z.0.3.1.0 z.0.3.1.1.0) _
+    (entry E 𝓛 𝓣.C 𝓣.Λ z.0.0.0 z.0.1.0 z.0.3.0.ref_ptr.0 z.0.3.0.ref_ptr.1 z.0.3.0.now z.0.3.1.0 z.0.3.1.1.0 z.0.4.0 z.0.4.1.0 z.0.4.1.1.0)
+    ) ((y.0.0, y.0.1, tt, y.0.3, y.0.4), y.1)

@@ -10,11 +10,10 @@ use mir.MapTy.{inst_fn}
 use mir.Val.{Val, vptr, vint}
 use base.Logic.{SProp, ent, sep, never, id⊢}
 use base.Fml.{Lft, GName, Share, Fml, ftrue, fsep, fat, flft, fobs, fbor}
-use prog.Wp.{Env, Calls, Loops, WpFn, Tables}
+use prog.Wp.{Env, Calls, Loops, WpFn}
 use types.Logic.{Logic, sem}
 use contract.Monad.{fact}
-use contract.Running.{tables, tables_of}
-use sound.WpLaws.{WpFn-mono}
+use contract.Running.{tables}
 use types.Kit.{Item, ⋆, ‵, raw, ◌⊛◌, some, later, await, pick, at_ret, ◌$◌, ◌∵◌, !, qed, by, move, keep, use1, use2, split, join, group, rewrite, fsplit}
 use types.Kit.{fsplit3, fjoin, fjoin3, fpack, feq_l, suffices, frame, done}
 use types.Part.{whole, sub, agg}
@@ -30,12 +29,9 @@ use denote.Ref.{MutBor, MutRef}
 use denote.Builtin.{RefMutOf}
 use denote.Signature.{plain, mut_ref_to}
 use denote.Steps.{nothing, opens}
-use denote.Triple.Carry.{spared}
-use denote.Triple.Clauses.{Clauses, Ended, closing}
+use denote.Triple.Clauses.{Clauses, Ended}
 use denote.Triple.Entry.{on_entry}
-use denote.Triple.Spec.{Meets, triple_of}
-use denote.Triple.Table.{entered, run_framed}
-use denote.Triple.Walked.{says, needs, Stays, stay_dropped, walk_of, ends_at, Goes-dropped, Goes-spent_ref, walk_Meets}
+use denote.Triple.Walked.{says, needs, Stays, stay_dropped, walk_of, ends_at, Goes-dropped, Goes-spent_ref}
 use Rattle.std_alloc.proofs.VecSteps.Shapes.{after}
 use Rattle.std_alloc.proofs.RcSteps.{word, word-Good}
 use lib.ListN.{length, take, length-take, length-drop, length-append}
@@ -62,6 +58,7 @@ use Rattle.std.specs.List.{refill}
 use Rattle.cone_arena.specs.Lends.{with_slots, spliced}
 use types.Run.{size_word}
 use Rattle.core.proofs.slots.Leases.{uncapped}
+use Rattle.cone_arena.proofs.Walks.{method, stays, all_go, proved_beside, handed}
 use Rattle.cone_arena.specs.contracts.cells.Cells.slice_mut.Key.{name as #self}
 use Rattle.cone_arena.proofs.cells.Cells.slice_mut.Statement as stated
 use Rattle.cone_arena.proofs.cells.Cells.slice_mut.Code as code
@@ -71,22 +68,10 @@ module _ (E : El) where
   function = inst_fn (args E) code.function
 
   abbrev ended : Ended
-  ended = record {
-    signature = record {
-      lifetimes = 1;
-      outlives = [];
-      params = RefMutOf (0 ∷ []) tt (plain (λ _. Cr E)) (λ _. tt) ∷ plain (λ _. Bs E) ∷ plain (λ _. usize) ∷ plain (λ _. usize) ∷ [];
-      result =
-          SliceRefMutOf (0 ∷ []) tt (plain (λ _. R E)) (λ _. tt);
-    };
-    kept = (no, (no, (no, (no, tt))));
-  }
+  ended = method E usize no (SliceRefMutOf (0 ∷ []) tt (plain (λ _. R E)) (λ _. tt))
 
   abbrev stayed : Stays ended.signature.params ended.kept
-  stayed = (
-    stay_dropped (mut_ref_to (0 ∷ []) tt (plain (λ _. Cr E))) no,
-    (stay_dropped (plain (λ _. Bs E)) no, (stay_dropped (plain (λ _. usize)) no, (stay_dropped (plain (λ _. usize)) no, tt))),
-  )
+  stayed = stays E usize no ended.signature.result (stay_dropped (mut_ref_to (0 ∷ []) tt (plain (λ _. Cr E))) no)
 
   abbrev Asks : (Cr E).Denot → (Bs E).Denot → (usize).Denot → (usize).Denot → Type 0
   Asks d base from len = (base.ptr ≡ d.at) × IsRun d.slots from len
@@ -127,7 +112,8 @@ module _ (E : El) {M : Type 1} {𝓤 : Ura M} (𝓛 : Logic 𝓤) (C : Calls �
     abbrev Rest : Fml
     Rest = fsep (Around E 𝓛 b o d.slots from len) (fsep ((Mark E).own_val (tt, tt) vs) (cell_at full_share (Cr E).mir vs rb ro))
 
-    back : d.at ≡ block_ptr b o → from + len ≤ length d.slots → length d.slots * sz E < 2 ^ 63 → length xs ≡ len → (ws : List (el_x E)) → length ws ≡ length xs
+    back : d.at ≡ block_ptr b o → from + len ≤ length d.slots → length d.slots * sz E < 2 ^ 63 → length xs ≡ len → (ws : List (el_x E))
+        → length ws ≡ length xs
         → ent 𝓤 (sep 𝓤 (sem 𝓛 (cells (mem (R E)) ws b (from * sz E + o))) (sem 𝓛 Rest)) (sem 𝓛 ((mem (Cr E)).own_at (new ws) rb ro))
     unfolding part_of
     back e within small count ws same =
@@ -146,14 +132,16 @@ module _ (E : El) {M : Type 1} {𝓤 : Ura M} (𝓛 : Logic 𝓤) (C : Calls �
         qed 𝓛 (‵ (cells (mem (R E)) ws b (from * sz E + o)) ∷ ‵ Rest ∷ []) ∵ use1 𝓛 (‵ (slots (R E) b (from * sz E + o) (map Some ws)))
         (of_cells E 𝓛 b ws (from * sz E + o)) $
         move ! (1 ∷ []) $ fsplit3 ! $ move ! (3 ∷ 0 ∷ []) $
-        use2 𝓛 (‵ (slots (R E) b o (spliced d.slots from len ws))) (run_in E 𝓛 b o d.slots from len within (map Some ws) (omega (arith, length-map ws Some))) $
+        use2 𝓛 (‵ (slots (R E) b o (spliced d.slots from len ws))) (run_in E 𝓛 b o d.slots from len within (map Some ws) (omega (arith, length-map ws Some)))
+        $
         rewrite ! 0 (λ (l : List (el_x E)). ‵ (slots (R E) b o (spliced d.slots from len l))) (sym all) refl $
         flt_i ! (length (new ws).slots * sz E) (2 ^ 63) (subst (λ k. k * sz E < 2 ^ 63) (sym long) small) $ fjoin ! $
         rewrite ! 0 (λ (p : Ptr). ‵ (cells_own (R E) p (new ws).slots)) (sym e) refl $ move ! (1 ∷ 0 ∷ []) $ fjoin ! $ move ! (1 ∷ 0 ∷ []) $ fjoin ! $
         fpack ! (List Val) (λ us. fsep (cell_at full_share (Cr E).mir us rb ro) ((Cr E).own_val (new ws) us)) vs $ done !
 
   exits : (v : Val) (r : MutBor (List (el_x E))) → Gives0 E d base from len r
-      → ent 𝓤 (sep 𝓤 (sem 𝓛 ((MutSlice (named 0) κ (R E)).own_val r (v ∷ []))) (sep 𝓤 (A.lft κ q) (sem 𝓛 (follows (Cr E) (Array (R E) 0) γ r.ghost_name new))))
+      → ent 𝓤 (sep 𝓤 (sem 𝓛 ((MutSlice (named 0) κ (R E)).own_val r (v ∷ [])))
+      (sep 𝓤 (A.lft κ q) (sem 𝓛 (follows (Cr E) (Array (R E) 0) γ r.ghost_name new))))
       (Post v)
   exits v r e =
       qed 𝓛 (‵ ((MutSlice (named 0) κ (R E)).own_val r (v ∷ [])) ∷ ‵ (flft κ q) ∷ ‵ (follows (Cr E) (Array (R E) 0) γ r.ghost_name new) ∷ []) ∵
@@ -183,7 +171,8 @@ module _ (E : El) {M : Type 1} {𝓤 : Ura M} (𝓛 : Logic 𝓤) (C : Calls �
       sets ! (bin ! (get_in ! (fld ! refl (stop !)) (sub ! 0 refl (whole !))) (get ! refl) tt) refl (tt, tt) $
       let at = from * s + o in let way = back vs b o xs e within small long in
       let roomy : length xs < 2 ^ 64 = omega arith in let fitting = times_below (length xs) (length d.slots) s (2 ^ 63) (omega arith) small in
-      use1 𝓛 (‵ (slots (R E) b at (take len (drop_l from d.slots))) ⊛ ‵ (Around E 𝓛 b o d.slots from len)) (run_out E 𝓛 b o d.slots from len within) $ split ! $
+      use1 𝓛 (‵ (slots (R E) b at (take len (drop_l from d.slots))) ⊛ ‵ (Around E 𝓛 b o d.slots from len)) (run_out E 𝓛 b o d.slots from len within) $ split !
+      $
       rewrite ! 0 (λ (cs : List (Place E)). ‵ (slots (R E) b at cs)) filled refl $ use1 𝓛 (‵ (cells (mem (R E)) xs b at)) (to_cells E 𝓛 b xs at) $
       sets_last ! (agg ! (and_then ! (get ! refl) (and_then ! (get ! refl) (no_more !)))) refl (tt, (tt, (record { fits = fits_len }, tt))) $
       exec ! C Λ En (after 1 (function E).body) (at_ret En Post) $ sets ! (of_opd ! (get ! refl)) refl (tt, (tt, (record { fits = fits_len }, tt))) $
@@ -202,43 +191,23 @@ module _ (E : El) {M : Type 1} {𝓤 : Ura M} (𝓛 : Logic 𝓤) (C : Calls �
   entry asked =
       qed 𝓛 ((‵ (flft κ q) ⊛ ‵ ftrue)
       ∷ ‵ (owns (MutRef (named 0) κ (Cr E) ∷ Bs E ∷ usize ∷ usize ∷ []) (self, (base, (from, (len, tt)))) (us0, (us1, (us2, (us3, tt))))) ∷ []) ∵
-      split ! $ move ! (2 ∷ []) $
-      fsplit ! $
-      fsplit3 ! $ feq_l ! (λ e0.
-      move ! (2 ∷ []) $
-      fsplit ! $
-      word_had ! base.ptr us1 (λ e1.
-      fsplit ! $
-      fsplit ! $ feq_l ! (λ e2. flt_l ! (λ fits_from.
-      fsplit ! $
+      handed ! E usize κ q self base from len us0 us1 us2 us3 (λ e0 e1 e2 fits_from.
       fsplit ! $ feq_l ! (λ e3. flt_l ! (λ fits_len.
       keep ! (1 ∷ 2 ∷ 3 ∷ []) $
       by ! (subst (λ (ws : List Val × List Val × List Val × List Val).
       ent 𝓤 (⋆ 𝓛 Had) (WpFn 𝓤 H C Λ (function E) (ws.0 ++ (ws.1 ++ (ws.2 ++ (ws.3 ++ [])))) Post)) (λ j. (sym e0 j, sym e1 j, sym e2 j, sym e3 j))
-      (walk asked fits_from fits_len))))))))
-
-meets : (E : El) {M : Type 1} {𝓤 : Ura M} (𝓛 : Logic 𝓤) (𝓣 : Tables 𝓤 𝓛.H)
-    → Meets 𝓛 (ended E).signature (WpFn 𝓤 𝓛.H 𝓣.C 𝓣.Λ (function E)) (closing 𝓛 (ended E) (spec E 𝓛))
-meets E {𝓤 = 𝓤} 𝓛 𝓣 =
-    walk_Meets 𝓛 (ended E) (stayed E) (
-      Goes-spent_ref 𝓛 1 (0 ∷ []) tt (plain (λ _. Cr E)),
-      (
-        Goes-dropped 𝓛 1 (plain (λ _. Bs E)) no (λ κs x f. refl),
-        (Goes-dropped 𝓛 1 (plain (λ _. usize)) no (λ κs x f. refl), (Goes-dropped 𝓛 1 (plain (λ _. usize)) no (λ κs x f. refl), tt)),
-      ),
-    ) (spec E 𝓛)
-    (WpFn 𝓤 𝓛.H 𝓣.C 𝓣.Λ (function E)) (WpFn-mono 𝓤 𝓛.H 𝓛.laws 𝓣 (function E))
-    (λ z. needs 𝓤 (Asks E z.0.3.0.now z.0.3.1.0 z.0.3.1.1.0 z.0.3.1.1.1.0) _
-    (entry E 𝓛 𝓣.C 𝓣.Λ z.0.0.0 z.0.1.0 z.0.3.0.ref_ptr.0 z.0.3.0.ref_ptr.1 z.0.3.0.ghost_name z.0.3.0.now z.0.3.1.0 z.0.3.1.1.0 z.0.3.1.1.1.0 z.0.4.0
-    z.0.4.1.0 z.0.4.1.1.0 z.0.4.1.1.1.0))
+      (walk asked fits_from fits_len)))))
 
 pub slice_mut_spec : {M : Type 1} → stated.statement M
-unfolding tables_of
 slice_mut_spec 𝓤 𝓛 𝓜 𝓡 wired X LX y =
     let E : El = record { row = X; laws = LX } in
-    let 𝓣 : Tables 𝓤 𝓛.H = tables_of 𝓤 𝓛.H 𝓜 (tables 𝓤 𝓛.H 𝓜 𝓡 𝓡.env) in
-    let k = #self (args E) in
-    spared 𝓛 (ended E).signature (𝓡.run (𝓡.env k)) (run_framed 𝓤 𝓛.H 𝓜 𝓡 (𝓡.env k)) 1 (X.lives, tt) (closing 𝓛 (ended E) (spec E 𝓛))
-    (entered 𝓤 𝓛.H (triple_of 𝓛 (ended E).signature (closing 𝓛 (ended E) (spec E 𝓛))) 𝓣.C 𝓣.Λ k (function E) (code.unfolded 𝓤 𝓛.H 𝓜 𝓡 wired (X, tt))
-    (meets E 𝓛 𝓣))
-    ((y.0.0, y.0.1, tt, y.0.3, y.0.4), y.1)
+    let 𝓣 = tables 𝓤 𝓛.H 𝓜 𝓡 𝓡.env in
+    proved_beside 𝓛 (ended E) (stayed E) (spec E 𝓛) 𝓜 𝓡 X.lives
+    (all_go E usize no (ended E).signature.result (stay_dropped (mut_ref_to (0 ∷ []) tt (plain (λ _. Cr E))) no) 𝓛
+    (Goes-spent_ref 𝓛 1 (0 ∷ []) tt (plain (λ _. Cr E)))
+    (Goes-dropped 𝓛 1 (plain (λ _. usize)) no (λ κs x f. refl)))
+    (#self (args E)) (function E) (code.unfolded 𝓤 𝓛.H 𝓜 𝓡 wired (X, tt)) (λ z.
+    needs 𝓤 (Asks E z.0.3.0.now z.0.3.1.0 z.0.3.1.1.0 z.0.3.1.1.1.0) _
+    (entry E 𝓛 𝓣.C 𝓣.Λ z.0.0.0 z.0.1.0 z.0.3.0.ref_ptr.0 z.0.3.0.ref_ptr.1 z.0.3.0.ghost_name z.0.3.0.now z.0.3.1.0 z.0.3.1.1.0 z.0.3.1.1.1.0
+    z.0.4.0 z.0.4.1.0 z.0.4.1.1.0 z.0.4.1.1.1.0)
+    ) ((y.0.0, y.0.1, tt, y.0.3, y.0.4), y.1)

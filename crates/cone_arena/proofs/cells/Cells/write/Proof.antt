@@ -10,11 +10,10 @@ use mir.MapTy.{inst_fn}
 use mir.Val.{Val, vptr, vint, vunit}
 use base.Logic.{SProp, ent, never, id⊢}
 use base.Fml.{Lft, GName, Share, ftrue, fat, flft, fobs, fbor}
-use prog.Wp.{Env, Calls, Loops, WpFn, Tables}
+use prog.Wp.{Env, Calls, Loops, WpFn}
 use types.Logic.{Logic}
 use contract.Monad.{fact}
-use contract.Running.{tables, tables_of}
-use sound.WpLaws.{WpFn-mono}
+use contract.Running.{tables}
 use types.Kit.{Item, ⋆, ‵, ◌⊛◌, at_ret, ◌$◌, ◌∵◌, !, qed, by, move, keep, use1, use2, split, join, rewrite, fsplit, fsplit3, fjoin, fjoin3, feq_i, feq_l}
 use types.Kit.{suffices, frame, done}
 use types.Part.{whole, sub}
@@ -30,12 +29,9 @@ use denote.Ref.{MutBor, MutRef}
 use denote.Builtin.{RefMutOf, unit}
 use denote.Signature.{plain}
 use denote.Steps.{nothing, opens, closes}
-use denote.Triple.Carry.{spared}
-use denote.Triple.Clauses.{Clauses, Ended, closing}
+use denote.Triple.Clauses.{Clauses, Ended}
 use denote.Triple.Entry.{on_entry}
-use denote.Triple.Spec.{Meets, triple_of}
-use denote.Triple.Table.{entered, run_framed}
-use denote.Triple.Walked.{says, needs, Stays, stay_dropped, stay_ref, walk_of, ends_at, Goes-dropped, Goes-ref, walk_Meets}
+use denote.Triple.Walked.{says, needs, Stays, stay_dropped, stay_ref, walk_of, ends_at, Goes-dropped, Goes-ref}
 use Rattle.std_alloc.proofs.VecSteps.Shapes.{after}
 use Rattle.std_alloc.proofs.RcSteps.{Good, word, word-Good}
 use lib.ListN.{length, set, get_or, length-set}
@@ -45,10 +41,10 @@ use types.ByLocal.{take_at, give_at}
 use denote.Builtin.{usize}
 use Rattle.std.specs.Prelude.{Some, None}
 use Rattle.core.proofs.mem.Param.{El, R, args, elτ}
-use Rattle.core.proofs.ptr.Rows.{times_below, one_below}
 use Rattle.std_alloc.proofs.RawLayout.{as_written}
 use Rattle.circular_buffer.specs.Ownership.{slot, slots, cells_own}
-use Rattle.cone_arena.proofs.Memory.{Cr, Bs, sz, Place, word_had, value_in, tells, Besides, slot_out, slot_in}
+use Rattle.cone_arena.proofs.Memory.{Cr, Bs, sz, size_fits, offset_fits, Place, word_had, value_in, tells, Besides, slot_out, slot_in}
+use Rattle.cone_arena.proofs.Walks.{method, stays, all_go, proved_beside, handed}
 use Rattle.cone_arena.specs.contracts.cells.Cells.write.Key.{name as #self}
 use Rattle.cone_arena.proofs.cells.Cells.write.Statement as stated
 use Rattle.cone_arena.proofs.cells.Cells.write.Code as code
@@ -58,22 +54,10 @@ module _ (E : El) where
   function = inst_fn (args E) code.function
 
   abbrev ended : Ended
-  ended = record {
-    signature = record {
-      lifetimes = 1;
-      outlives = [];
-      params = RefMutOf (0 ∷ []) tt (plain (λ _. Cr E)) (λ _. tt) ∷ plain (λ _. Bs E) ∷ plain (λ _. usize) ∷ plain (λ _. R E) ∷ [];
-      result =
-          plain (λ _. unit);
-    };
-    kept = (yes, (no, (no, (no, tt))));
-  }
+  ended = method E (R E) yes (plain (λ _. unit))
 
   abbrev stayed : Stays ended.signature.params ended.kept
-  stayed = (
-    stay_ref (0 ∷ []) tt (plain (λ _. Cr E)),
-    (stay_dropped (plain (λ _. Bs E)) no, (stay_dropped (plain (λ _. usize)) no, (stay_dropped (plain (λ _. R E)) no, tt))),
-  )
+  stayed = stays E (R E) yes ended.signature.result (stay_ref (0 ∷ []) tt (plain (λ _. Cr E)))
 
   abbrev Asks : (Cr E).Denot → (Bs E).Denot → (usize).Denot → (R E).Denot → Type 0
   Asks d base index item = (base.ptr ≡ d.at) × (index < length d.slots) × (get_or d.slots index None ≡ None)
@@ -124,8 +108,7 @@ module _ (E : El) {M : Type 1} {𝓤 : Ura M} (𝓛 : Logic 𝓤) (C : Calls �
       let En : Env 𝓤 H = env (function E).locals l in
       opens ! tt (Cr E) {h = d} rb ro (λ vs. move ! (1 ∷ []) $ fsplit ! $ move ! (1 ∷ []) $
       in_a_block ! d.at (λ p. cells_own (R E) p d.slots) (id⊢ 𝓤 (never 𝓤)) (λ b o e. fsplit ! $ flt_l ! (λ small.
-      let s = sz E in let tiny : s < 2 ^ 64 = omega (arith, one_below (length d.slots) s (2 ^ 63) (omega arith) small) in
-      let far : index * s < 2 ^ 64 = omega (arith, times_below index (length d.slots) s (2 ^ 63) (omega arith) small) in
+      let s = sz E in let tiny = size_fits E (length d.slots) index within small in let far = offset_fits E (length d.slots) index within small in
       take_at ! 2 $ rewrite ! 0 (λ (p : Ptr). ‵ (fat full_share (layout (Bs E)) (l 2) 0 (word p))) (asked.0 ∙ e) refl $ give_at ! 2 $ first ! $ blocks ! $
       sets ! (bin ! (get ! refl) (size_lit ! (record { fits = tiny })) (record { fits = far })) refl (tt, record { fits = far }) $
       sets ! (bin ! (get_in ! (fld ! refl (stop !)) (sub ! 0 refl (whole !))) (get ! refl) tt) refl (tt, tt) $
@@ -149,43 +132,22 @@ module _ (E : El) {M : Type 1} {𝓤 : Ura M} (𝓛 : Logic 𝓤) (C : Calls �
   entry asked =
       qed 𝓛 ((‵ (flft κ q) ⊛ ‵ ftrue)
       ∷ ‵ (owns (MutRef (named 0) κ (Cr E) ∷ Bs E ∷ usize ∷ R E ∷ []) (self, (base, (index, (item, tt)))) (us0, (us1, (us2, (us3, tt))))) ∷ []) ∵
-      split ! $ move ! (2 ∷ []) $
-      fsplit ! $
-      fsplit3 ! $ feq_l ! (λ e0.
-      move ! (2 ∷ []) $
-      fsplit ! $
-      word_had ! base.ptr us1 (λ e1.
-      fsplit ! $
-      fsplit ! $ feq_l ! (λ e2. flt_l ! (λ fits_index.
-      fsplit ! $
+      handed ! E (R E) κ q self base index item us0 us1 us2 us3 (λ e0 e1 e2 fits_index.
       tells E.row E.laws ! item us3 (λ v_item e3 good_item.
       keep ! (2 ∷ 3 ∷ 4 ∷ 0 ∷ []) $
       by ! (subst (λ (ws : List Val × List Val × List Val × List Val).
       ent 𝓤 (⋆ 𝓛 (Had v_item)) (WpFn 𝓤 H C Λ (function E) (ws.0 ++ (ws.1 ++ (ws.2 ++ (ws.3 ++ [])))) Post))
-      (λ j. (sym e0 j, sym e1 j, sym e2 j, sym e3 j)) (walk e0 asked fits_index v_item good_item)))))))
-
-meets : (E : El) {M : Type 1} {𝓤 : Ura M} (𝓛 : Logic 𝓤) (𝓣 : Tables 𝓤 𝓛.H)
-    → Meets 𝓛 (ended E).signature (WpFn 𝓤 𝓛.H 𝓣.C 𝓣.Λ (function E)) (closing 𝓛 (ended E) (spec E 𝓛))
-meets E {𝓤 = 𝓤} 𝓛 𝓣 =
-    walk_Meets 𝓛 (ended E) (stayed E) (
-      Goes-ref 𝓛 1 0 tt (plain (λ _. Cr E)),
-      (
-        Goes-dropped 𝓛 1 (plain (λ _. Bs E)) no (λ κs x f. refl),
-        (Goes-dropped 𝓛 1 (plain (λ _. usize)) no (λ κs x f. refl), (Goes-dropped 𝓛 1 (plain (λ _. R E)) no (λ κs x f. refl), tt)),
-      ),
-    ) (spec E 𝓛)
-    (WpFn 𝓤 𝓛.H 𝓣.C 𝓣.Λ (function E)) (WpFn-mono 𝓤 𝓛.H 𝓛.laws 𝓣 (function E))
-    (λ z. needs 𝓤 (Asks E z.0.3.0.now z.0.3.1.0 z.0.3.1.1.0 z.0.3.1.1.1.0) _
-    (entry E 𝓛 𝓣.C 𝓣.Λ z.0.0.0 z.0.1.0 z.0.3.0.ref_ptr.0 z.0.3.0.ref_ptr.1 z.0.3.0.ghost_name z.0.3.0.now z.0.3.1.0 z.0.3.1.1.0 z.0.3.1.1.1.0 z.0.4.0
-    z.0.4.1.0 z.0.4.1.1.0 z.0.4.1.1.1.0))
+      (λ j. (sym e0 j, sym e1 j, sym e2 j, sym e3 j)) (walk e0 asked fits_index v_item good_item))))
 
 pub write_spec : {M : Type 1} → stated.statement M
-unfolding tables_of
 write_spec 𝓤 𝓛 𝓜 𝓡 wired X LX y =
     let E : El = record { row = X; laws = LX } in
-    let 𝓣 : Tables 𝓤 𝓛.H = tables_of 𝓤 𝓛.H 𝓜 (tables 𝓤 𝓛.H 𝓜 𝓡 𝓡.env) in
-    let k = #self (args E) in
-    spared 𝓛 (ended E).signature (𝓡.run (𝓡.env k)) (run_framed 𝓤 𝓛.H 𝓜 𝓡 (𝓡.env k)) 1 (X.lives, tt) (closing 𝓛 (ended E) (spec E 𝓛))
-    (entered 𝓤 𝓛.H (triple_of 𝓛 (ended E).signature (closing 𝓛 (ended E) (spec E 𝓛))) 𝓣.C 𝓣.Λ k (function E) (code.unfolded 𝓤 𝓛.H 𝓜 𝓡 wired (X, tt))
-    (meets E 𝓛 𝓣))
-    ((y.0.0, y.0.1, tt, y.0.3, y.0.4), y.1)
+    let 𝓣 = tables 𝓤 𝓛.H 𝓜 𝓡 𝓡.env in
+    proved_beside 𝓛 (ended E) (stayed E) (spec E 𝓛) 𝓜 𝓡 X.lives
+    (all_go E (R E) yes (ended E).signature.result (stay_ref (0 ∷ []) tt (plain (λ _. Cr E))) 𝓛
+    (Goes-ref 𝓛 1 0 tt (plain (λ _. Cr E))) (Goes-dropped 𝓛 1 (plain (λ _. R E)) no (λ κs x f. refl)))
+    (#self (args E)) (function E) (code.unfolded 𝓤 𝓛.H 𝓜 𝓡 wired (X, tt)) (λ z.
+    needs 𝓤 (Asks E z.0.3.0.now z.0.3.1.0 z.0.3.1.1.0 z.0.3.1.1.1.0) _
+    (entry E 𝓛 𝓣.C 𝓣.Λ z.0.0.0 z.0.1.0 z.0.3.0.ref_ptr.0 z.0.3.0.ref_ptr.1 z.0.3.0.ghost_name z.0.3.0.now z.0.3.1.0 z.0.3.1.1.0 z.0.3.1.1.1.0
+    z.0.4.0 z.0.4.1.0 z.0.4.1.1.0 z.0.4.1.1.1.0)
+    ) ((y.0.0, y.0.1, tt, y.0.3, y.0.4), y.1)

@@ -1,10 +1,9 @@
-use Rattle.std.specs.Prelude.{◌≡◌, ◌+◌, ◌++◌, ◌∷◌, [], List, length, take, slice_set}
+use Rattle.std.specs.Prelude.{◌≡◌, ◌+◌, length, take, slice_set}
 use Rattle.std.proofs.Common.{arith, ap, ◌∙◌, length-set}
-use Rattle.unimodular_cone.specs.Shown.{ShownCone}
 use Rattle.cone_arena.specs.ShownRows.{ShownRows}
 use Rattle.cone_arena.proofs.Laid.{rows_seen}
 use Rattle.cone_arena.proofs.RowsLent.{rows_kept}
-use Rattle.cone_arena.proofs.Tops.{take_pair, same_row, same_below}
+use Rattle.cone_arena.proofs.Tops.{same_row, top_split}
 use Rattle.cone_arena.proofs.rows.Rows.split.Goals as goal
 
 -- the rows as the slice has them are, up to the top, those from before
@@ -31,13 +30,4 @@ returns-clause-split c =
     let same : length c.split_rows.new.rows ≡ length xs = ap length split.rows ∙ length-set (slice_set xs top split.second) (top + 1) split.first
     ∙ length-set xs top split.second in
     let kept = rows_kept f xs c.split_rows.new.rows c.self.invariant c.slice_mut.ensures.value same in
-    record {
-      was = split.was;
-      second = split.second;
-      first = split.first;
-      stood = split.stood ∙ same_row xs old top split.was agree;
-      is_second = split.is_second;
-      is_first = split.is_first;
-      cones = ap (take (top + 2)) (kept.1 ∙ split.rows) ∙ take_pair xs top split.second split.first (omega (arith, c.fill_above.ensures.filled, ap length all))
-          ∙ ap (λ (s : List ShownCone). s ++ split.second ∷ split.first ∷ []) (same_below xs old top agree);
-    }
+    top_split old xs _ _ top _ _ agree (omega (arith, c.fill_above.ensures.filled, ap length all)) split kept.1

@@ -1,11 +1,6 @@
-use Rattle.std.proofs.Common.{◌≡◌, []}
 use Rattle.symmetric_matrix.specs.Symmetric.{entry}
-use Rattle.cone_pool.specs.Parts.{IsWorkerPart, IsSameMember}
+use Rattle.cone_pool.proofs.Turning.{IsBetweenTurns}
 use Rattle.cone_pool.proofs.member.Member.turns.Given as goal
 
 abbrev pub invariant-loop-turn : goal.invariant-loop-turn
-invariant-loop-turn g l = record {
-  part : IsWorkerPart l.mode l.q.size (entry l.q) l.limit [] l.self;
-  same : IsSameMember l.fn.self l.self;
-  none : l.self.kept ≡ [];
-}
+invariant-loop-turn g l = IsBetweenTurns l.mode l.q.size (entry l.q) l.limit l.fn.self l.self

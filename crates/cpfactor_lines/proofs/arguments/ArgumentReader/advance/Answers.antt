@@ -9,40 +9,38 @@ use Rattle.cpfactor_lines.specs.ReaderStates.{most_plain, HasRead}
 use Rattle.cpfactor_lines.specs.declared.arguments.ArgumentReader.{ArgumentReader}
 use Rattle.cpfactor_lines.proofs.ReaderSteps.{HasRead-plain, HasRead-other, HasRead-room}
 use Rattle.cpfactor_lines.proofs.arguments.ArgumentReader.advance.Goals as goal
-use Rattle.cpfactor_lines.proofs.arguments.ArgumentReader.advance.Goals.{After-as_str-word, After-is_option, then-is_none+then-not-is_option, else-is_none}
+use Rattle.cpfactor_lines.proofs.arguments.ArgumentReader.advance.Goals.{After-is_option, then-is_none+then-not-is_option, else-is_none}
 use Rattle.cpfactor_lines.proofs.arguments.ArgumentReader.advance.Goals.{else-is_none-via-then-is_none+else-not-is_option, else-is_none-via-else-is_none}
 
--- the word at the place
-word_here : (c : After-as_str-word) → word_at (texts c.args.words.now) c.args.place ≡ c.as_str-word.result.now
-word_here c = text_at c.args.words.now c.args.place c.index-words-place.result c.requires.within c.index-words-place.is ∙ sym c.as_str-word.ensures.value
-
 -- there is room for the place of a plain argument
-room_here : (c : After-is_option) → word_at (texts c.args.words.now) c.args.place ≡ c.as_str-word.result.now → c.is_option.result ≡ false
-    → c.args.self.now.count < most_plain
-room_here c at plain =
+room_here : (c : After-is_option) → c.is_option.result ≡ false → c.args.self.now.count < most_plain
+room_here c plain =
+    let at : word_at (texts c.args.words.now) c.args.place ≡ c.as_str-word.result.now =
+    text_at c.args.words.now c.args.place c.index-words-place.result c.requires.within c.index-words-place.is ∙ sym c.as_str-word.ensures.value in
     HasRead-room c.args.row.now (texts c.args.words.now) c.args.place c.args.self.now c.requires.stands c.if-is_none.ensures
     (ap is_option at ∙ sym c.is_option.ensures ∙ plain) c.requires.reads c.requires.few
 
 pub offset_bounds-self-self : goal.offset_bounds-self-self
 offset_bounds-self-self c =
     let at = goal.at.offset_bounds-self-self c in
-    omega (arith, room_here at.After-is_option (word_here at.After-as_str-word) c.if-not-is_option.true)
+    omega (arith, room_here at.After-is_option c.if-not-is_option.true)
 
 pub bounds-self-self : goal.bounds-self-self
 bounds-self-self c =
     let at = goal.at.bounds-self-self c in
-    omega (arith, room_here at.After-is_option (word_here at.After-as_str-word) c.if-not-is_option.true)
+    omega (arith, room_here at.After-is_option c.if-not-is_option.true)
 
 pub overflow_add-self : goal.overflow_add-self
 overflow_add-self c =
     let at = goal.at.overflow_add-self c in
-    omega (arith, room_here at.After-is_option (word_here at.After-as_str-word) c.if-not-is_option.true)
+    omega (arith, room_here at.After-is_option c.if-not-is_option.true)
 
 pub returns : goal.returns
 returns c =
     let words = texts c.args.words.now in
     let options = options_of c.args.row.now in
-    let at = word_here (goal.at.returns c).After-as_str-word in
+    let at : word_at words c.args.place ≡ c.as_str-word.result.now =
+    text_at c.args.words.now c.args.place c.index-words-place.result c.requires.within c.index-words-place.is ∙ sym c.as_str-word.ensures.value in
     let named : option_map option_of c.option_named.result ≡ option_named options (word_at words c.args.place) = c.option_named.ensures
     ∙ ap (option_named options) (sym at) in
     let next : c.and_then-self.result ≡ option_and_then (λ (o : OptionRow). o.value) c.option_named.result = search rules in

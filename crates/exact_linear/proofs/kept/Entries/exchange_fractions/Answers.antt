@@ -5,17 +5,11 @@ use Rattle.exact_linear.specs.Exchange.{table_cells}
 use Rattle.exact_linear.specs.Whole.{entries_in}
 use Rattle.exact_linear.proofs.KeptEntries.{kept_fractions}
 use Rattle.exact_linear.proofs.kept.Entries.exchange_fractions.Goals as goal
+use Rattle.exact_linear.proofs.kept.Entries.exchange_fractions.Goals.{After-deref-2}
 
-now_err : (c : goal.After-from_residual) → c.deref-2.result.now ≡ c.args.self.now
-now_err c =
-    let a : c.deref-2.result.now ≡ c.fractions_into.new.into = c.deref-2.ensures.value
-    ∙ with_items_is c.self.inside.fractions c.fractions_into.new.into
-    (c.fractions_into.auto.into ∙ ap length c.deref_mut.ensures.value ∙ sym (c.self.inside.fractions.ok.0)) in
-    let b : c.fractions_into.new.into ≡ entries_in c.self.inside.den c.self.inside.wholes.items c.self.inside.fractions.items = grind (arith, to_z-of_z) in
-    a ∙ b ∙ c.self.view_is
-
-now_ok : (c : goal.After-swap) → c.deref-2.result.now ≡ c.args.self.now
-now_ok c =
+-- the fractions that are written are the entries
+now_is : (c : After-deref-2) → c.deref-2.result.now ≡ c.args.self.now
+now_is c =
     let a : c.deref-2.result.now ≡ c.fractions_into.new.into = c.deref-2.ensures.value
     ∙ with_items_is c.self.inside.fractions c.fractions_into.new.into
     (c.fractions_into.auto.into ∙ ap length c.deref_mut.ensures.value ∙ sym (c.self.inside.fractions.ok.0)) in
@@ -23,10 +17,12 @@ now_ok c =
     a ∙ b ∙ c.self.view_is
 
 pub returns-in_err-exchange_into-clause-refused : goal.returns-in_err-exchange_into-clause-refused
-returns-in_err-exchange_into-clause-refused c = let n = now_err c in grind arith
+returns-in_err-exchange_into-clause-refused c = let n : c.deref-2.result.now ≡ c.args.self.now =
+    now_is (goal.at.returns-in_err-exchange_into-clause-refused c).After-deref-2 in grind arith
 
 pub returns-in_err-exchange_into-clause-kept : goal.returns-in_err-exchange_into-clause-kept
-returns-in_err-exchange_into-clause-kept c = let n = now_err c in grind (arith, kept_fractions)
+returns-in_err-exchange_into-clause-kept c = let n : c.deref-2.result.now ≡ c.args.self.now =
+    now_is (goal.at.returns-in_err-exchange_into-clause-kept c).After-deref-2 in grind (arith, kept_fractions)
 
 made_is : (c : goal.After-swap) → c.swap.new.x.items ≡ c.exchange_into.new.into
 made_is c =
@@ -37,4 +33,4 @@ made_is c =
 pub returns-clause-made : goal.returns-clause-made
 returns-clause-made c =
     kept_fractions c.self.inside.wholes.items c.swap.new.x.items ∙ made_is c ∙ c.in_ok-exchange_into.ensures.made
-    ∙ ap (λ (l : List Rational). table_cells c.args.width l c.args.row c.args.column) (now_ok c)
+    ∙ ap (λ (l : List Rational). table_cells c.args.width l c.args.row c.args.column) (now_is (goal.at.returns-clause-made c).After-deref-2)

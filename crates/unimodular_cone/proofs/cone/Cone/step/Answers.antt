@@ -2,7 +2,7 @@ use Rattle.std.specs.Prelude.{◌≡◌, ◌-◌, ℕ, nat_eq}
 use Rattle.std.proofs.Common.{arith, subst}
 use Rattle.std.proofs.lemmas.Grind.{common_steps}
 use Rattle.unimodular_cone.specs.Shown.{FitsOnSide, IsChild}
-use Rattle.unimodular_cone.proofs.ShownAt.{exact_child}
+use Rattle.unimodular_cone.proofs.ShownAt.{exact_child_of}
 use Rattle.unimodular_cone.proofs.cone.Cone.step.Goals as goal
 
 pub replace-requires-clause-fits : goal.replace-requires-clause-fits
@@ -16,9 +16,9 @@ replace-requires-else-side-eq0-clause-fits c =
 pub returns-then-side-eq0-clause-exact : goal.returns-then-side-eq0-clause-exact
 returns-then-side-eq0-clause-exact c =
     let made : IsChild c.args.self.now (c.args.i - 1) (c.args.j - 1) (nat_eq c.args.side 1) c.replace.new.self = grind (arith, common_steps) in
-    exact_child _ _ _ _ _ (omega (arith, c.requires.first, c.requires.order)) (omega (arith, c.requires.first, c.requires.order, c.requires.last)) made
+    exact_child_of _ _ _ _ _ c.requires.first c.requires.order c.requires.last made
 
 pub returns-else-side-eq0-clause-exact : goal.returns-else-side-eq0-clause-exact
 returns-else-side-eq0-clause-exact c =
     let made : IsChild c.args.self.now (c.args.i - 1) (c.args.j - 1) (nat_eq c.args.side 1) c.replace-else-side-eq0.new.self = grind (arith, common_steps) in
-    exact_child _ _ _ _ _ (omega (arith, c.requires.first, c.requires.order)) (omega (arith, c.requires.first, c.requires.order, c.requires.last)) made
+    exact_child_of _ _ _ _ _ c.requires.first c.requires.order c.requires.last made
