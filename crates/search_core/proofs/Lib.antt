@@ -8,6 +8,7 @@ pub mod Bound
 pub mod Answers
 pub mod Times
 pub mod Kept
+pub mod Deciding
 pub mod Finish
 pub mod Reaching
 pub mod Steps

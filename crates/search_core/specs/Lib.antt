@@ -9,4 +9,5 @@ pub mod Attaining
 pub mod Ends
 pub mod Theorems
 pub mod Kept
+pub mod Lowering
 pub mod Way

@@ -1,12 +1,12 @@
 //! The fate of a cone under a word.
 
-ghost use Rattle.std.specs.Prelude.{◌≡◌, ◌≤◌, ◌<◌, ◌-◌, ℕ, suc, min, length, Some, MatchOption};
+ghost use Rattle.std.specs.Prelude.{◌≡◌, ◌≤◌, ◌<◌, ◌-◌, ◌↔◌, ℕ, suc, length, IsTrue, Some, MatchOption};
 ghost use Rattle.unimodular_cone.specs.Answer.{IsLeastDiagonal};
 ghost use Rattle.unimodular_cone.specs.Shown.{shown_gram, IsWithinLimits};
 ghost use Rattle.search_core.specs.Judging.{shown_code, shown_least, IsLowShown, IsFirstLowShown, IsUndecidedShown, IsShownFate, IsJudgementOf};
 
 use crate::fate::{Fate, Judged};
-use crate::words::{bound_under, code_at, is_low_value};
+use crate::words::{bound_under, is_low_value};
 use unimodular_cone::{ByReading, ConeRead, ConeTests, Mode, least_value};
 
 /// The first low generator of a cone, counted from 1.
@@ -57,13 +57,13 @@ fn which_low<C: ConeRead>(mode: Mode, c: &C) -> u8
     }
 }
 
-/// The fate of a cone whose least value is this.
+/// The fate of a cone, of which it is told whether a generator is low.
 #[inline(always)]
-fn fate_of<C: ConeTests>(mode: Mode, c: &C, limit: u8, word: u64, least: i128) -> Fate
+pub(crate) fn fate_of<C: ConeTests>(mode: Mode, c: &C, limit: u8, word: u64, low: bool) -> Fate
     requires below_code { word ≤ shown_code mode (C.cone c.now) }
     requires limited { limit ≤ 200 }
     requires within { length (C.cone c.now).path ≤ limit }
-    requires least { IsLeastDiagonal (C.cone c.now).size (shown_gram (C.cone c.now)) least }
+    requires low { IsTrue low ↔ IsLowShown mode (C.cone c.now) }
     ensures { IsShownFate mode (C.cone c.now) limit word result }
 {
     let _n = c.n();
@@ -71,7 +71,7 @@ fn fate_of<C: ConeTests>(mode: Mode, c: &C, limit: u8, word: u64, least: i128) -
     if word < u64::from(depth) {
         return Fate::Dropped { word };
     }
-    if is_low_value(mode, least) {
+    if low {
         return Fate::Low {
             which: which_low(mode, c),
         };
@@ -94,7 +94,8 @@ pub fn judge<C: ConeRead>(mode: Mode, c: &C, limit: u8, word: u64) -> Fate
     requires within { length (C.cone c.now).path ≤ limit }
     ensures { IsShownFate mode (C.cone c.now) limit word result }
 {
-    fate_of(mode, &ByReading::of(c), limit, word, least_value(c))
+    let low = is_low_value(mode, least_value(c));
+    fate_of(mode, &ByReading::of(c), limit, word, low)
 }
 
 /// The judgement of a cone whose least value is this.
@@ -105,9 +106,10 @@ fn judgement_of<C: ConeRead>(mode: Mode, c: &C, limit: u8, word: u64, least: i12
     requires least { IsLeastDiagonal (C.cone c.now).size (shown_gram (C.cone c.now)) least }
     ensures { IsJudgementOf mode (C.cone c.now) limit word result }
 {
+    let low = is_low_value(mode, least);
     Judged {
         path: c.path(),
-        fate: fate_of(mode, &ByReading::of(c), limit, word, least),
+        fate: fate_of(mode, &ByReading::of(c), limit, word, low),
         least,
     }
 }
@@ -120,18 +122,4 @@ pub fn judgement<C: ConeRead>(mode: Mode, c: &C, limit: u8, word: u64) -> Judged
     ensures { IsJudgementOf mode (C.cone c.now) limit word result }
 {
     judgement_of(mode, c, limit, word, least_value(c))
-}
-
-/// The fate of a cone, with a limit of depth, under a word that first falls to the cone's code if that is less.
-#[inline(always)]
-pub fn lowering_fate<C: ConeTests>(mode: Mode, c: &C, limit: u8, word: &mut u64) -> Fate
-    requires limited { limit ≤ 200 }
-    requires within { length (C.cone c.now).path ≤ limit }
-    ensures word { word.new ≡ min word.old (shown_code mode (C.cone c.now)) }
-    ensures fate { IsShownFate mode (C.cone c.now) limit word.new result }
-{
-    let least = c.least_value();
-    let lower = (*word).min(code_at(mode, c.path().len(), least));
-    *word = lower;
-    fate_of(mode, c, limit, lower, least)
 }

@@ -63,9 +63,9 @@ fn is_needed<C: ConeTests>(mode: Mode, c: &C, fresh: NewGenerators, fate: &Fate,
 {
     match fate {
         Fate::Low { .. } | Fate::AtLimit { .. } | Fate::Wide { .. } => true,
-        Fate::Closed { .. } | Fate::Split { .. } | Fate::Dropped { .. } => match mode {
-            Mode::Sign => false,
-            Mode::Least => {
+        Fate::Closed { .. } | Fate::Split { .. } | Fate::Dropped { .. } => match (fresh, mode) {
+            (NewGenerators::NoOne, _) | (_, Mode::Sign) => false,
+            (_, Mode::Least) => {
                 word >= 256 && has_new_within(c, fresh, i128::from(bound_under(mode, word)))
             }
         },

@@ -10,6 +10,7 @@ mod hand;
 mod judging;
 mod keeping;
 mod law;
+mod lowering;
 mod machine;
 #[cfg(test)]
 mod machine_tests;
@@ -24,11 +25,12 @@ mod words;
 pub use answer::{Least, Sign};
 pub use event::{Event, Stepped};
 pub use fate::{Fate, Judged};
-pub use judging::{judge, judgement, lowering_fate};
+pub use judging::{judge, judgement};
 pub use keeping::{NewGenerators, keep_fate};
 pub use law::{
     at_most_one_fate, code_is_of_the_path, every_run_is_fair, fate_is_of_the_path, runs_are_fair,
 };
+pub use lowering::lowering_fate;
 pub use machine::Machine;
 pub use searcher::Searcher;
 pub use settling::{settle_least, settle_least_part, settle_sign, settle_sign_part};

@@ -12,9 +12,10 @@ use Rattle.search_core.specs.declared.NewGenerators.TheVariants.{Each}
 use Rattle.search_core.specs.Fair.{start_word, IsFairPart}
 use Rattle.search_core.specs.Judging.{shown_code, IsShownFate}
 use Rattle.search_core.specs.Kept.{NamesNew, new_after, IsConeKept}
+use Rattle.search_core.specs.Lowering.{HasOthersOver}
 use Rattle.serial_search.specs.Turns.{IsOnTop, MayTurn, IsTurnOf, IsRootAlone}
 use Rattle.serial_search.proofs.Tops.{AreDeep, may_turn, deep_turned}
-use Rattle.serial_search.proofs.Stacks.{cones_left, IsSearching, search_starts, search_step, search_ends, top_within, top_named, no_items}
+use Rattle.serial_search.proofs.Stacks.{cones_left, IsSearching, search_starts, search_step, search_ends, top_within, top_named, top_others, no_items}
 
 pub record IsSearchLoop (m : Mode) (q : Symmetric) (d : ℕ) (arena : ShownArena) (word : ℕ) (fresh : NewGenerators) (kept : List Judged) : Type 0 where
   pub searching : IsSearching m q.size (entry q) d arena.cones word fresh kept
@@ -41,6 +42,9 @@ module _ {m : Mode} {q : Symmetric} {d : ℕ} {arena : ShownArena} {word : ℕ} 
 
   pub loop_named : NamesNew cone.size fresh
   loop_named = top_named m q.size (entry q) d arena.cones rest cone word fresh kept h.searching top
+
+  pub loop_others : d ≤ 200 → HasOthersOver m cone fresh word
+  loop_others limited = top_others m q.size (entry q) d arena.cones rest cone word fresh kept h.searching top limited
 
   pub loop_may_turn : (lower : ℕ) (f : Fate) → cone.size ≡ arena.size → IsShownFate m cone d lower f → MayTurn arena f
   loop_may_turn lower f size shown = may_turn m arena rest cone d lower f top size h.deep h.room loop_within shown

@@ -1,7 +1,7 @@
 -- A search with a stack is the machine with one hand.
 --
 -- | search_starts, search_step, search_ends | the search that keeps what is needed |
--- | top_within, top_named | what such a search knows of its top |
+-- | top_within, top_named, top_others | what such a search knows of its top |
 -- | plain_starts, plain_step, plain_ends | the search that keeps every judgement |
 use Rattle.std.specs.Prelude.{◌≡◌, ◌≢◌, ℕ, zero, suc, ◌<◌, ◌≤◌, ◌+◌, ◌-◌, ◌*◌, ◌^◌, min, ℤ, ◌≤ℤ◌, ◌<ℤ◌, ◌⊎◌, Bool, true, false, Some}
 use Rattle.std.specs.Prelude.{List, [], ◌∷◌, ◌++◌, length, map}
@@ -13,7 +13,7 @@ use Rattle.std.proofs.lemmas.List.{map-append, append-nil}
 use Rattle.std.proofs.lemmas.List.Elements.{Contains-push, Contains-append_left, Contains-append_cases, Contains-push_cases}
 use Rattle.commutative_ring.proofs.SmallCases.{below_unless_same, same_or_not}
 use Rattle.unimodular_cone.specs.declared.Mode.{Mode}
-use Rattle.unimodular_cone.specs.declared.Mode.TheVariants.{Least}
+use Rattle.unimodular_cone.specs.declared.Mode.TheVariants.{Sign, Least}
 use Rattle.unimodular_cone.specs.Paths.{Path}
 use Rattle.unimodular_cone.specs.Cones.{Matrix, gram, value, cone_at, pair_of, IsPair}
 use Rattle.unimodular_cone.specs.Shown.{ShownCone, shown_gram, IsChild, IsConeAt}
@@ -27,11 +27,16 @@ use Rattle.search_core.specs.Fair.{code, start_word, bound_under, IsSplit, IsLow
 use Rattle.search_core.specs.declared.NewGenerators.{NewGenerators}
 use Rattle.search_core.specs.declared.NewGenerators.TheVariants.{Each, One, NoOne}
 use Rattle.search_core.specs.Kept.{IsNew, NamesNew, new_after, IsUnneededFate, IsConeKept}
+use Rattle.search_core.specs.Lowering.{IsNotUnder, AreOthersOver, HasOthersOver}
 use Rattle.search_core.specs.Judging.{shown_code, shown_least, IsShownFate, IsJudgementOf}
-use Rattle.search_core.specs.Machine.{IsKept}
+use Rattle.search_core.specs.Machine.{IsKept, times, paths, standing, due}
 use Rattle.search_core.proofs.ShownFates.{shown_code_at, shown_least_at, fate_at, path_fate}
 use Rattle.search_core.proofs.PathFates.{IsPathFate}
 use Rattle.search_core.proofs.Laws.{fate_unique}
+use Rattle.search_core.proofs.Deciding.{code_not_under}
+use Rattle.search_core.proofs.Finish.{stands_judged}
+use Rattle.search_core.proofs.Kept.{times_standing}
+use Rattle.search_core.proofs.Reaching.{counted_in_tree}
 use Rattle.search_core.proofs.SameGenerators.{same_itself, same_value, has_same, first_other, second_other, second_mediant}
 use Rattle.search_core.proofs.Serial.{alone, alone_start, alone_end, stacked, stack_turn}
 use Rattle.serial_search.specs.Turns.{IsOnTop, AreChildrenOn, AreStacked}
@@ -132,6 +137,15 @@ pub record IsSearching (m : Mode) (n : ℕ) (q : Matrix) (d : ℕ) (stack : List
   pub has : HasKept m n q word all kept
   pub stack_is : IsStack m n q d stack word fresh kept
 
+-- a value is over the bound of a word over 256, or within it
+over_or_within : (z : ℤ) (word : ℕ) → 256 < word → IsNotUnder word z ⊎ (z ≤ℤ bound_under Least word)
+over_or_within z word over = grind (arith, ints)
+
+-- a word over 256 is none of a search for a sign
+large_word_is_least : (m : Mode) (n : ℕ) (q : Matrix) (word : ℕ) → 256 < word → word ≤ start_word m n q → m ≡ Least
+large_word_is_least Sign n q word over le = absurd (omega arith)
+large_word_is_least Least n q word over le = refl
+
 module _ (m : Mode) (n : ℕ) (q : Matrix) (d : ℕ) (stack rest : List ShownCone) (cone : ShownCone) (word : ℕ) (fresh : NewGenerators) (kept : List Judged)
     (h : IsSearching m n q d stack word fresh kept) (top : IsOnTop cone rest stack) where
   pub top_within : length cone.path ≤ d
@@ -139,6 +153,70 @@ module _ (m : Mode) (n : ℕ) (q : Matrix) (d : ℕ) (stack rest : List ShownCon
 
   pub top_named : NamesNew cone.size fresh
   top_named = subst (λ (k : ℕ). NamesNew k fresh) (sym (h.stack_is.cones cone (top_in stack rest cone top)).0.cone.size) h.stack_is.named
+
+  at_top : IsConeAt n q cone.path cone
+  at_top = (h.stack_is.cones cone (top_in stack rest cone top)).0
+
+  judged_short : (j : Judged) → Contains h.all j → length j.path ≤ d
+  judged_short j there = (counted_in_tree m n q d word h.all h.state.judgements counts j.path due_here).short
+    where
+      counts : (y : Path) → times y (paths h.all) ≤ times y (due h.all)
+      counts y =
+          let a : times y (standing (alone (map path_of stack) word h.all)) ≡ times y (due h.all) = h.state.stands y in
+          let b = times_standing y (alone (map path_of stack) word h.all) in
+          omega arith
+
+      due_here : 1 ≤ times j.path (due h.all)
+      due_here = let a : 1 ≤ times j.path (paths h.all) = stands_judged h.all j there in let b = counts j.path in omega arith
+
+  -- a generator that a judged cone has is not under the word, which is at most that cone's code
+  judged_over : d ≤ 200 → m ≡ Least → 256 < word → (path : Path) (k : ℕ) → HasGenerator n q kept path k
+      → IsNotUnder word (value n q (cone_at n q path) k)
+  judged_over limited mode over path k (j, l, there, same) =
+      let short : length j.path ≤ d = judged_short j (h.has.within j there) in
+      let coded : word ≤ code Least n q j.path = subst (λ (m : Mode). word ≤ code m n q j.path) mode
+      (h.state.below_codes j.path (inl (j, h.has.within j there, refl))) in
+      subst (IsNotUnder word) (same_value n q path j.path k l same) (code_not_under n q j.path word (omega arith) over coded l same.range)
+
+  covered_over : d ≤ 200 → m ≡ Least → 256 < word → (path : Path) (k : ℕ) → IsCovered m n q word kept path k
+      → IsNotUnder word (value n q (cone_at n q path) k)
+  covered_over limited mode over path k covered = by (over_or_within (value n q (cone_at n q path) k) word over)
+    where
+      by : (IsNotUnder word (value n q (cone_at n q path) k) ⊎ (value n q (cone_at n q path) k ≤ℤ bound_under Least word))
+          → IsNotUnder word (value n q (cone_at n q path) k)
+      by (inl u) = u
+      by (inr b) = judged_over limited mode over path k (covered mode (omega arith) b)
+
+  is_least : 256 < word → m ≡ Least
+  is_least over = large_word_is_least m n q word over h.state.below_start
+
+  others_over : d ≤ 200 → 256 < word → (m ≡ Least) × AreOthersOver cone fresh word
+  others_over limited over = (
+    is_least over,
+    λ k l. by k (rw (sym at_top.cone.size) l) (h.stack_is.waiting cone (top_in stack rest cone top) k (rw (sym at_top.cone.size) l)),
+  )
+    where
+      by : (k : ℕ) → k < n → (IsCovered m n q word kept cone.path k ⊎ IsNewOnTop n q stack fresh cone.path k)
+          → IsNotUnder word (shown_gram cone k k) ⊎ ((l : ℕ) × (l < cone.size) × IsNew fresh l × (shown_gram cone k k ≡ shown_gram cone l l))
+      by k l (inl c) = inl (rw (value_at n q cone.path cone at_top k l) (covered_over limited (is_least over) over cone.path k c))
+      by k l (inr t) =
+          let same : IsSameGenerator n q cone.path k cone.path t.l =
+          subst (λ (c : ShownCone). IsSameGenerator n q cone.path k c.path t.l) (same_top stack t.rest rest t.top cone t.on_top top) t.same in
+          inr (
+            t.l,
+            rw at_top.cone.size same.range,
+            t.is_new,
+            value_at n q cone.path cone at_top k l ∙ sym (same_value n q cone.path cone.path k t.l same)
+                ∙ sym (value_at n q cone.path cone at_top t.l same.range),
+          )
+
+  pub top_others : d ≤ 200 → HasOthersOver m cone fresh word
+  top_others limited = by fresh (others_over limited)
+    where
+      by : (f : NewGenerators) → (256 < word → (m ≡ Least) × AreOthersOver cone f word) → HasOthersOver m cone f word
+      by Each o = tt
+      by (One which) o = o
+      by NoOne o = o
 
 -- ---- the start
 pub search_starts : (m : Mode) (n : ℕ) (q : Matrix) (d : ℕ) (root : ShownCone) → IsConeAt n q [] root

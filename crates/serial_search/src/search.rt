@@ -56,7 +56,7 @@ pub fn search(
     let mut fresh = NewGenerators::Each;
     while arena.len() > 0 {
         let cone = arena.top();
-        let fate = lowering_fate(mode, &cone, limit, &mut word);
+        let fate = lowering_fate(mode, &cone, limit, fresh, &mut word);
         keep_fate(&mut judged, mode, &cone, limit, fresh, &fate, word)?;
         turn(arena, &fate);
         fresh = NewGenerators::after(&fate);

@@ -46,7 +46,7 @@ fn search_in_turns(
             }));
         }
         let cone = arena.top();
-        let fate = lowering_fate(mode, &cone, limit, &mut word);
+        let fate = lowering_fate(mode, &cone, limit, fresh, &mut word);
         keep_fate(&mut judged, mode, &cone, limit, fresh, &fate, word)?;
         turn(arena, &fate);
         fresh = NewGenerators::after(&fate);

@@ -17,7 +17,7 @@ ghost use Rattle.serial_search.specs.Walks.{ComesFirst, ComesBehind, IsLowNoted,
 use crate::search::turn;
 use crate::searcher::bound_wide;
 use cone_arena::ConeArena;
-use search_core::{Fate, judge, lowering_fate, start_word};
+use search_core::{Fate, NewGenerators, judge, lowering_fate, start_word};
 use std::alloc::Global;
 use symmetric_matrix::{IntVector, SymInt};
 use unimodular_cone::{ConeRead, Mode, Path, WideAt, at_path};
@@ -136,7 +136,7 @@ fn first_walk(arena: &mut ConeArena, q: &SymInt, limit: u8) -> Fallen
     let mut first: Option<LowCone> = None;
     while arena.len() > 0 {
         let cone = arena.top();
-        let fate = lowering_fate(Mode::Least, &cone, limit, &mut word);
+        let fate = lowering_fate(Mode::Least, &cone, limit, NewGenerators::Each, &mut word);
         note_low(&mut first, &cone, &fate);
         turn(arena, &fate);
     }

@@ -2,7 +2,7 @@ use Rattle.std.specs.Prelude.{◌<◌}
 use Rattle.std.proofs.Common.{arith, refl}
 use Rattle.search_core.specs.Kept.{new_after}
 use Rattle.serial_search.proofs.Stacks.{cones_left, no_items}
-use Rattle.serial_search.proofs.Loops.{IsSearchLoop, loop_starts, loop_ends, loop_within, loop_named, loop_may_turn, loop_turns}
+use Rattle.serial_search.proofs.Loops.{IsSearchLoop, loop_starts, loop_ends, loop_within, loop_named, loop_others, loop_may_turn, loop_turns}
 use Rattle.serial_search.proofs.narrow_search.search_over.Goals as goal
 
 pub loop-mode-init : goal.loop-mode-init
@@ -11,6 +11,12 @@ loop-mode-init c =
 
 pub lowering_fate-fate-requires-clause-within : goal.lowering_fate-fate-requires-clause-within
 lowering_fate-fate-requires-clause-within c = loop_within c.loop-mode.invariant.loop c.top-cone.ensures.top.0 _ c.top-cone.ensures.top.1
+
+pub lowering_fate-fate-requires-clause-named : goal.lowering_fate-fate-requires-clause-named
+lowering_fate-fate-requires-clause-named c = loop_named c.loop-mode.invariant.loop c.top-cone.ensures.top.0 _ c.top-cone.ensures.top.1
+
+pub lowering_fate-fate-requires-clause-others : goal.lowering_fate-fate-requires-clause-others
+lowering_fate-fate-requires-clause-others c = loop_others c.loop-mode.invariant.loop c.top-cone.ensures.top.0 _ c.top-cone.ensures.top.1 c.requires.limited
 
 pub keep_fate-requires-clause-below_code : goal.keep_fate-requires-clause-below_code
 keep_fate-requires-clause-below_code c = omega (arith, c.lowering_fate-fate.ensures.word)

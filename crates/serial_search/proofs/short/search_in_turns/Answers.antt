@@ -1,6 +1,6 @@
 use Rattle.std.proofs.Common.{arith}
 use Rattle.serial_search.proofs.Stacks.{no_items}
-use Rattle.serial_search.proofs.Loops.{loop_starts, loop_ends, loop_within, loop_named, loop_may_turn, loop_turns}
+use Rattle.serial_search.proofs.Loops.{loop_starts, loop_ends, loop_within, loop_named, loop_others, loop_may_turn, loop_turns}
 use Rattle.serial_search.proofs.short.search_in_turns.Goals as goal
 
 pub loop-init : goal.loop-init
@@ -9,6 +9,12 @@ loop-init c =
 
 pub lowering_fate-fate-requires-clause-within : goal.lowering_fate-fate-requires-clause-within
 lowering_fate-fate-requires-clause-within c = loop_within c.loop.invariant.loop c.top-cone.ensures.top.0 _ c.top-cone.ensures.top.1
+
+pub lowering_fate-fate-requires-clause-named : goal.lowering_fate-fate-requires-clause-named
+lowering_fate-fate-requires-clause-named c = loop_named c.loop.invariant.loop c.top-cone.ensures.top.0 _ c.top-cone.ensures.top.1
+
+pub lowering_fate-fate-requires-clause-others : goal.lowering_fate-fate-requires-clause-others
+lowering_fate-fate-requires-clause-others c = loop_others c.loop.invariant.loop c.top-cone.ensures.top.0 _ c.top-cone.ensures.top.1 c.requires.limited
 
 pub keep_fate-requires-clause-below_code : goal.keep_fate-requires-clause-below_code
 keep_fate-requires-clause-below_code c = omega (arith, c.lowering_fate-fate.ensures.word)
