@@ -12,7 +12,7 @@ mod squares;
 pub use law::{
     at_most_one_answer, leaving_is_unique, one_run, settled_at_once, tables_have_coordinates,
 };
-pub use lists::{Exchanges, Indices, Weights};
+pub use lists::{Exchanges, Indices, Listed, Weights};
 pub use placed::{Exchange, PlaceOp, Placed};
 pub use simplex::place;
 

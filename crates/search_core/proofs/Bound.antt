@@ -52,6 +52,18 @@ module _ (n : ℕ) (q : Matrix) (d : ℕ) (judged : List Judged) (final : ℕ) (
       abs_le (least_diagonal n q) (pos (2 ^ 63 - 1)) (omega (arith, ints)) (omega (arith, ints)) in
       omega arith
 
+  pub final_over : 256 < final
+  final_over = by fair.final_word.attained
+    where
+      by : ((final ≡ start_word Least n q) ⊎ ((j : Judged) × Contains judged j × (final ≡ code Least n q j.path))) → 256 < final
+      by (inl e) =
+          let p : pos 1 ≤ℤ least_diagonal n q = diagonal_positive in
+          let f : final ≡ 256 + nat_abs (least_diagonal n q) = e ∙ start_not_low _ p in omega (arith, ints)
+      by (inr (j, c, e)) =
+          let p : pos 1 ≤ℤ least_value n q (cone_at n q j.path) = tree_least j.path (judged_in_tree Least n q d judged final s fair j c) in
+          let f : final ≡ min (256 + nat_abs (least_value n q (cone_at n q j.path))) (2 ^ 64 - 1) = e ∙ code_not_low (length j.path) _ p in
+          omega (arith, ints)
+
   attained : (p : Path) × (k : ℕ) × IsInTree n q d p × (k < n) × (value n q (cone_at n q p) k ≡ bound_under Least final)
   attained = by fair.final_word.attained
     where

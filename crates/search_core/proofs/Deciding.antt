@@ -4,8 +4,8 @@
 -- | over_is, serves | by the values of the generators, where all but the new one are over the word |
 -- | serves_least | by the least value |
 -- | code_not_under | a word that is at most a cone's code is not under its generators' values |
-use Rattle.std.specs.Prelude.{◌≡◌, ℕ, zero, suc, ◌<◌, ◌≤◌, ◌+◌, ◌-◌, ◌^◌, ◌↔◌, ◌⊎◌, min, ℤ, pos, negsuc, ◌+ℤ◌, ◌≤ℤ◌, nat_abs, IsTrue, Bool, length}
-use Rattle.std.proofs.Common.{arith, sym, ◌∙◌, ap, refl, inl, inr, subst}
+use Rattle.std.specs.Prelude.{◌≡◌, ℕ, zero, suc, ◌<◌, ◌≤◌, ◌+◌, ◌-◌, ◌^◌, ◌↔◌, ◌⊎◌, min, ℤ, pos, negsuc, ◌≤ℤ◌, nat_abs, length}
+use Rattle.std.proofs.Common.{arith, sym, ◌∙◌, ap, inl, inr, subst}
 use Rattle.std.proofs.lemmas.Int.{ints}
 use Rattle.unimodular_cone.specs.declared.Mode.{Mode}
 use Rattle.unimodular_cone.specs.declared.Mode.TheVariants.{Sign, Least}
@@ -14,7 +14,7 @@ use Rattle.unimodular_cone.specs.Cones.{Matrix, value, cone_at}
 use Rattle.unimodular_cone.specs.Tree.{IsLowValue}
 use Rattle.unimodular_cone.specs.Answer.{IsLeastDiagonal}
 use Rattle.unimodular_cone.specs.Shown.{ShownCone, shown_gram}
-use Rattle.search_core.specs.Fates.{least_upto, least_value, code_of, code}
+use Rattle.search_core.specs.Fates.{least_value, code_of, code}
 use Rattle.search_core.specs.Judging.{shown_least, shown_code, IsLowShown}
 use Rattle.search_core.specs.Lowering.{IsNotUnder, IsOver, ServesAsLeast}
 use Rattle.search_core.proofs.LeastValues.{least_upto_le, least_upto_attained, least_value_le, code_not_low}

@@ -1,6 +1,6 @@
 -- Padded vectors in a set, and their list.
 use Rattle.std.specs.Prelude.{◌≡◌, ◌≢◌, ℕ, zero, suc, ◌<◌, ◌≤◌, ◌+◌, ℤ, pos, ◌⊎◌, List, [], ◌∷◌, ◌++◌, length, map, take, slice_index_or}
-use Rattle.std.specs.Prelude.{Result, Ok, Err, IfOk}
+use Rattle.std.specs.Prelude.{◌-◌, Result, Ok, Err, IfOk, OnOk}
 use Rattle.std.specs.List.{Contains, All}
 use Rattle.std.specs.Ordering.{MatchOrdering, match_ordering, nat_cmp, ordering_then}
 use Rattle.std.specs.Cmp.{ranks}
@@ -15,12 +15,14 @@ use Rattle.exact_forms.specs.Vectors.{ComesBefore}
 use Rattle.symmetric_matrix.specs.Lists.{IsVectorList, CanFollow}
 use Rattle.symmetric_matrix.proofs.Lists.{list_push}
 use Rattle.symmetric_matrix.proofs.Runs.{Contains-map, Contains-map_back}
+use Rattle.unimodular_cone.specs.Paths.{Path}
 use Rattle.unimodular_cone.specs.Cones.{Matrix, value, cone_at}
 use Rattle.unimodular_cone.specs.Answer.{IsListOf}
 use Rattle.unimodular_cone.specs.Shown.{ShownCone, shown_gram, shown_coordinate, shown_generators, IsWithinLimits, IsConeAt}
 use Rattle.exact_forms.proofs.Vectors.{contains_cons, contains_here, contains_there, vector_decided}
 use Rattle.unimodular_cone.proofs.ShownLaws.{coordinate_within}
-use Rattle.search_core.specs.Fair.{Judged}
+use Rattle.search_core.specs.Fair.{Judged, IsSameGenerator}
+use Rattle.search_core.specs.Noting.{NamesNew, AddsNew, One}
 use Rattle.search_core.specs.Attaining.{IsPadded, IsKeyOf, IsWithKey, AddsAttaining, HasGenerators, IsKey, AreKeys, IsVectorsOf, ListsGenerators}
 
 -- ---- the order of keys
@@ -178,9 +180,32 @@ none_more c m z old keys h ne = record { kept = h.kept; added = λ k lk ek. at k
     at k ek (inl lt) = h.added k lt ek
     at k ek (inr s) = absurd (ne (subst (λ (i : ℕ). shown_gram c i i ≡ z) (sym s) ek))
 
+-- a cone's one new generator
+pub one_new : (c : ShownCone) (which : ℕ) (z : ℤ) (old new : List (List ℕ)) (x : List ℕ) → NamesNew c.size (One which)
+    → shown_gram c (which - 1) (which - 1) ≡ z → IsKeyOf c (which - 1) x → IsWithKey old x new → AddsNew c (One which) z old new
+one_new c which z old new x named e key w = record {
+  kept = w.kept;
+  added = λ k l is same. (x, w.added, subst (λ (i : ℕ). IsKeyOf c i x) (omega arith) key);
+  only = λ y cy. of y (w.only y cy);
+}
+  where
+    of : (y : List ℕ) → (Contains old y ⊎ (x ≡ y)) → Contains old y ⊎ ((k : ℕ) × (k < c.size) × (shown_gram c k k ≡ z) × IsKeyOf c k y)
+    of y (inl cy) = inl cy
+    of y (inr s) = inr (which - 1, omega (arith, named.0, named.1), e, subst (IsKeyOf c (which - 1)) s key)
+
 -- ---- the generators of a list of judgements
-padded_same : (n : ℕ) (x : List ℕ) (v w : ℕ → ℤ) → ((p : ℕ) → p < n → v p ≡ w p) → IsPadded n x v → IsPadded n x w
+pub padded_same : (n : ℕ) (x : List ℕ) (v w : ℕ → ℤ) → ((p : ℕ) → p < n → v p ≡ w p) → IsPadded n x v → IsPadded n x w
 padded_same n x v w e h = record { size = h.size; same = λ p l. h.same p l ∙ e p l; small = h.small; rest = h.rest }
+
+pub same_key : (n : ℕ) (q : Matrix) (p other : Path) (k l : ℕ) (x : List ℕ) → l < n → IsPadded n x (cone_at n q p k) → IsPadded n x (cone_at n q other l)
+    → IsSameGenerator n q p k other l
+same_key n q p other k l x range one two = record { range = range; same = λ i li. sym (two.same i li) ∙ one.same i li }
+
+pub padded_at : (n : ℕ) (q : Matrix) (path : Path) (c : ShownCone) → IsConeAt n q path c → (k : ℕ) (x : List ℕ) → k < n → IsKeyOf c k x
+    → IsPadded n x (cone_at n q path k)
+padded_at n q path c at k x l p =
+    padded_same n x (shown_generators c k) (cone_at n q path k) (λ i li. at.cone.generators k i l li)
+    (subst (λ (m : ℕ). IsPadded m x (shown_generators c k)) at.cone.size p)
 
 module _ (n : ℕ) (q : Matrix) (judged : List Judged) (j : Judged) (z : ℤ) (keys new : List (List ℕ)) (h : HasGenerators n q judged z keys) where
   pub has_more : (c : ShownCone) → IsConeAt n q j.path c → AddsAttaining c n z keys new → HasGenerators n q (judged ++ j ∷ []) z new
@@ -189,18 +214,13 @@ module _ (n : ℕ) (q : Matrix) (judged : List Judged) (j : Judged) (z : ℤ) (k
     all = λ i k ci e l val. there i k e l val (Contains-push_cases judged j i ci);
   }
     where
-      to_path : (k : ℕ) (x : List ℕ) → k < n → IsKeyOf c k x → IsPadded n x (cone_at n q j.path k)
-      to_path k x l p =
-          padded_same n x (shown_generators c k) (cone_at n q j.path k) (λ i li. at.cone.generators k i l li)
-          (subst (λ (m : ℕ). IsPadded m x (shown_generators c k)) at.cone.size p)
-
       of : (x : List ℕ) → (Contains keys x ⊎ ((k : ℕ) × (k < n) × (shown_gram c k k ≡ z) × IsKeyOf c k x))
           → (i : Judged) × (k : ℕ) × Contains (judged ++ j ∷ []) i × (k < n) × IsPadded n x (cone_at n q i.path k) × (value n q (cone_at n q i.path) k ≡ z)
       of x (inl cx) = let r = h.each x cx in (r.0, r.1, Contains-append_left judged (j ∷ []) r.0 r.2, r.3, r.4, r.5)
-      of x (inr (k, l, e, p)) = (j, k, Contains-push judged j, l, to_path k x l p, sym (at.cone.gram_is k k l l) ∙ e)
+      of x (inr (k, l, e, p)) = (j, k, Contains-push judged j, l, padded_at n q j.path c at k x l p, sym (at.cone.gram_is k k l l) ∙ e)
 
       here : (k : ℕ) → k < n → value n q (cone_at n q j.path) k ≡ z → (x : List ℕ) × Contains new x × IsPadded n x (cone_at n q j.path k)
-      here k l val = let r = a.added k l (at.cone.gram_is k k l l ∙ val) in (r.0, r.1, to_path k r.0 l r.2)
+      here k l val = let r = a.added k l (at.cone.gram_is k k l l ∙ val) in (r.0, r.1, padded_at n q j.path c at k r.0 l r.2)
 
       there : (i : Judged) (k : ℕ) → i.least ≡ z → k < n → value n q (cone_at n q i.path) k ≡ z → (Contains judged i ⊎ (j ≡ i))
           → (x : List ℕ) × Contains new x × IsPadded n x (cone_at n q i.path k)
@@ -338,3 +358,7 @@ module _ (n : ℕ) (q : Matrix) (judged : List Judged) (z : ℤ) (keys vectors :
 pub if_ok : {T E : Type 0} (r : Result T E) (P Q : T → Type 0) → ((x : T) → P x → Q x) → IfOk r P → IfOk r Q
 if_ok (Ok x) P Q f h = f x h
 if_ok (Err e) P Q f h = tt
+
+pub on_ok : {T E P Q : Type 0} (r : Result T E) → (P → Q) → OnOk r P → OnOk r Q
+on_ok (Ok x) f h = f h
+on_ok (Err e) f h = tt

@@ -1,9 +1,8 @@
 -- What the machine's code does in a step is an event, and what is kept stays kept.
-use Rattle.std.specs.Prelude.{◌≡◌, ◌≢◌, ℕ, zero, suc, ◌<◌, ◌≤◌, ◌+◌, ◌-◌, min, ◌⊎◌, List, [], ◌∷◌, ◌++◌, length, take, drop, replicate, slice_index_or}
+use Rattle.std.specs.Prelude.{◌≡◌, ◌≢◌, ℕ, zero, suc, ◌<◌, ◌≤◌, ◌+◌, ◌-◌, min, List, [], ◌∷◌, ◌++◌, length, take, drop, replicate, slice_index_or}
 use Rattle.std.specs.Prelude.{slice_set}
 use Rattle.std.proofs.Common.{arith, sym, ◌∙◌, ap, ap₂, refl, inl, inr, subst, length-append}
 use Rattle.std.proofs.lemmas.List.{take_more}
-use Rattle.std.specs.List.{Contains}
 use Rattle.std.specs.Ordering.{MatchOrdering, is_eq}
 use Rattle.std.specs.Bool.{MatchBool}
 use Rattle.std.specs.declared.cmp.Ordering.{Ordering}
@@ -12,16 +11,16 @@ use Rattle.symmetric_matrix.specs.Symmetric.{Symmetric, entry}
 use Rattle.unimodular_cone.specs.declared.Mode.{Mode}
 use Rattle.unimodular_cone.specs.Paths.{Path, IsNoLater, place_order}
 use Rattle.unimodular_cone.proofs.Orders.{place_order_is, no_later_self}
-use Rattle.unimodular_cone.specs.Cones.{Matrix, Fits, unit_vectors, cone_at}
+use Rattle.unimodular_cone.specs.Cones.{Matrix, Fits, unit_vectors}
 use Rattle.unimodular_cone.specs.Tree.{IsInTree}
 use Rattle.search_core.specs.declared.event.Event.{Event}
 use Rattle.search_core.specs.declared.event.Event.TheVariants.{Take, Offer, Judge}
 use Rattle.search_core.specs.declared.event.Stepped.{Stepped}
 use Rattle.search_core.specs.declared.event.Stepped.TheVariants.{Applied, Ignored, OutOfMemory}
 use Rattle.search_core.specs.declared.machine.Machine.TheInside.{Inside}
-use Rattle.search_core.specs.Fair.{Fate, Closed, Split, Low, Dropped, AtLimit, Wide, Judged, least_value, code, IsSplit, IsFate, IsFair}
-use Rattle.search_core.specs.Machine.{Hand, Empty, Taken, Offered, State, hand, held, in_hands, children_of, IsTake, IsOffer, IsJudge, IsKept, AreEmpty}
-use Rattle.search_core.specs.Events.{ShownMachine, IsRunning, IsNewMachine, IsSameSearch, IsWorker, HasInHand, IsIgnored, IsEvent, IsStepAnswer, IsEventRun}
+use Rattle.search_core.specs.Fair.{Fate, Closed, Split, Low, Dropped, AtLimit, Wide, Judged, code, IsSplit, IsFate, IsFair}
+use Rattle.search_core.specs.Machine.{Hand, Empty, Taken, Offered, State, held, in_hands, children_of, IsKept, AreEmpty}
+use Rattle.search_core.specs.Events.{ShownMachine, IsRunning, IsNewMachine, IsSameSearch, HasInHand, IsIgnored, IsEvent, IsStepAnswer, IsEventRun}
 use Rattle.search_core.specs.Events.{HasEnded, IsPlaceOf, IsJudgementAt}
 use Rattle.search_core.proofs.Kept.{take_keeps, offer_keeps, judge_keeps}
 use Rattle.search_core.proofs.Finish.{start_is_kept, end_is_fair}

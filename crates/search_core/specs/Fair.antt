@@ -11,6 +11,8 @@
 --     IsFair m n q d list final  one judgement for the root and for each child of a Split, and for no other path
 --     IsSameGenerator n q p k o l  generator l of the cone at o is generator k of the cone at p
 --     HasGenerator n q list p k  a judgement of the list has generator k of the cone at p
+--     HasLowAndEnds all part     a part of a list has the judgements that are low or an end
+--     IsFairEnds                 such a part of a fair list
 --     HasAllRelevant             a part of a list has what an answer looks at: the judgements that are low or an end, and in
 --                                Least each generator whose value is the final bound
 --     IsRelevantFate m word f z  an answer may look at a judgement of fate f and least value z: it is low, an end, or z is at
@@ -119,6 +121,16 @@ pub record IsSameGenerator (n : ℕ) (q : Matrix) (p : Path) (k : ℕ) (other : 
 -- a judgement of the list has generator k of the cone at path
 abbrev pub HasGenerator : ℕ → Matrix → List Judged → Path → ℕ → Type 0
 HasGenerator n q judged path k = (j : Judged) × (l : ℕ) × Contains judged j × IsSameGenerator n q path k j.path l
+
+pub record HasLowAndEnds (all part : List Judged) : Type 0 where
+  pub within : (j : Judged) → Contains part j → Contains all j
+  pub low : (j : Judged) → Contains all j → IsLowFate j.fate → Contains part j
+  pub ends : (j : Judged) → Contains all j → IsEndFate j.fate → Contains part j
+
+pub record IsFairEnds (m : Mode) (n : ℕ) (q : Matrix) (d : ℕ) (part : List Judged) (final : ℕ) : Type 0 where
+  pub all : List Judged
+  pub fair : IsFair m n q d all final
+  pub has : HasLowAndEnds all part
 
 -- part has what an answer looks at: the judgements that are low or an end, and in Least each generator whose value is the
 -- final bound

@@ -9,5 +9,6 @@ pub mod Attaining
 pub mod Ends
 pub mod Theorems
 pub mod Kept
+pub mod Noting
 pub mod Lowering
 pub mod Way

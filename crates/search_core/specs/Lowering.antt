@@ -11,7 +11,7 @@ use Rattle.unimodular_cone.specs.Tree.{IsLowValue}
 use Rattle.unimodular_cone.specs.Shown.{ShownCone, shown_gram}
 use Rattle.search_core.specs.Fates.{code_of}
 use Rattle.search_core.specs.Judging.{shown_code, IsLowShown}
-use Rattle.search_core.specs.Kept.{NewGenerators, IsNew, Each, One, NoOne}
+use Rattle.search_core.specs.Noting.{NewGenerators, IsNew, Each, One, NoOne}
 
 abbrev pub IsNotUnder : ℕ → ℤ → Type 0
 IsNotUnder word z = pos word ≤ℤ (pos 256 +ℤ z)

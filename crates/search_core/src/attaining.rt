@@ -19,10 +19,10 @@ use symmetric_matrix::{IntVector, SymInt, VectorList};
 use unimodular_cone::{Cone, ConeRead, Path};
 
 /// A generator's coordinates, with zeros past them, so that keys are in the vectors' order.
-type Key = [u64; 8];
+pub type Key = [u64; 8];
 
 /// The key of a generator that counts from 1.
-fn key_of<C: ConeRead>(c: &C, k: u8) -> Key
+pub(crate) fn key_of<C: ConeRead>(c: &C, k: u8) -> Key
     requires first { 1 ≤ k }
     requires last { k ≤ (C.cone c.now).size }
     ensures fits { IsWithinLimits (C.cone c.now) }
@@ -56,7 +56,7 @@ pub(crate) fn generator<C: ConeRead>(alloc: Global, c: &C, k: u8) -> IntVector
 }
 
 /// Puts a key into a set.
-fn add_key(found: &mut BTreeSet<Key>, key: Key) -> Result<(), AllocError>
+pub(crate) fn add_key(found: &mut BTreeSet<Key>, key: Key) -> Result<(), AllocError>
     ensures { OnOk result (IsWithKey found.old.keys key found.new.keys) }
 {
     found.insert(key)?;
@@ -64,7 +64,7 @@ fn add_key(found: &mut BTreeSet<Key>, key: Key) -> Result<(), AllocError>
 }
 
 /// Puts the keys of a cone's generators of this value into a set.
-fn add_attaining<C: ConeRead>(
+pub(crate) fn add_attaining<C: ConeRead>(
     c: &C,
     minimum: u64,
     found: &mut BTreeSet<Key>,
@@ -137,7 +137,7 @@ fn keys_attaining(
 }
 
 /// The vectors of a set of keys, in its order.
-fn listed(alloc: Global, n: u8, keys: BTreeSet<Key>) -> Result<VectorList, AllocError>
+pub(crate) fn listed(alloc: Global, n: u8, keys: BTreeSet<Key>) -> Result<VectorList, AllocError>
     requires some { 1 ≤ n }
     requires few { n ≤ 8 }
     requires keys { AreKeys n keys.keys }

@@ -14,6 +14,7 @@ mod lowering;
 mod machine;
 #[cfg(test)]
 mod machine_tests;
+mod noting;
 mod scan;
 mod searcher;
 mod settling;
@@ -23,16 +24,20 @@ mod way;
 mod words;
 
 pub use answer::{Least, Sign};
+pub use attaining::Key;
 pub use event::{Event, Stepped};
 pub use fate::{Fate, Judged};
 pub use judging::{judge, judgement};
-pub use keeping::{NewGenerators, keep_fate};
+pub use keeping::keep_fate;
 pub use law::{
     at_most_one_fate, code_is_of_the_path, every_run_is_fair, fate_is_of_the_path, runs_are_fair,
 };
 pub use lowering::lowering_fate;
 pub use machine::Machine;
+pub use noting::{NewGenerators, note_new};
 pub use searcher::Searcher;
-pub use settling::{settle_least, settle_least_part, settle_sign, settle_sign_part};
+pub use settling::{
+    settle_least, settle_least_noted, settle_least_part, settle_sign, settle_sign_part,
+};
 pub use unimodular_cone::Mode;
 pub use words::{code, least_diagonal, start_word};

@@ -5,12 +5,12 @@
 
 ghost use Rattle.std.specs.Prelude.{◌≡◌, ◌≤◌, ◌↔◌, length, min, IsTrue, MatchOption};
 ghost use Rattle.search_core.specs.Judging.{shown_code, IsLowShown, IsShownFate};
-ghost use Rattle.search_core.specs.Kept.{NamesNew};
+ghost use Rattle.search_core.specs.Noting.{NamesNew};
 ghost use Rattle.search_core.specs.Lowering.{HasOthersOver, IsOver, ServesAsLeast};
 
 use crate::fate::Fate;
 use crate::judging::fate_of;
-use crate::keeping::NewGenerators;
+use crate::noting::NewGenerators;
 use crate::words::{code_at, is_low_value};
 use unimodular_cone::{ConeTests, Mode};
 

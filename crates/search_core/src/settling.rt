@@ -4,16 +4,18 @@ ghost use Rattle.std.specs.Prelude.{◌≤◌, ◌<◌};
 ghost use Rattle.symmetric_matrix.specs.Symmetric.{entry};
 ghost use Rattle.unimodular_cone.specs.Cones.{unit_vectors, Fits};
 ghost use Rattle.unimodular_cone.specs.Answer.{BoundFits};
-ghost use Rattle.search_core.specs.Fair.{IsFair, IsFairPart, IsEndFate};
+ghost use Rattle.search_core.specs.Fair.{IsFair, IsFairPart, IsFairEnds, IsEndFate};
 ghost use Rattle.search_core.specs.Answers.{IsLeastAnswer, IsSignAnswer};
 ghost use Rattle.search_core.specs.Ends.{IsEndOf, NamesEnd};
+ghost use Rattle.search_core.specs.Noting.{IsFairNoted};
 
 use crate::answer::{Least, Sign};
-use crate::attaining::{attaining, fitting_cone, generator};
+use crate::attaining::{Key, attaining, fitting_cone, generator, listed};
 use crate::fate::{Fate, Judged};
 use crate::scan::{first_low, first_open};
 use crate::words::bound_under;
 use std::alloc::Global;
+use std::collections::BTreeSet;
 use symmetric_matrix::{IntVector, SymInt};
 use unimodular_cone::{ConeRead, Mode, Path, WideAt};
 
@@ -36,7 +38,7 @@ pub(crate) enum End {
 
 /// The end at the first low cone, of this depth.
 fn low_end(alloc: Global, mode: Mode, q: &SymInt, limit: u8, judged: &[Judged], depth: u8) -> End
-    requires part { IsFairPart mode q.now.size (entry q.now) limit judged.now depth }
+    requires ends { IsFairEnds mode q.now.size (entry q.now) limit judged.now depth }
     requires limited { limit ≤ 200 }
     requires fits { Fits q.now.size (entry q.now) unit_vectors }
     requires bound_fits { BoundFits mode q.now.size (entry q.now) }
@@ -78,7 +80,7 @@ fn end_of(
     judged: &[Judged],
     final_word: u64,
 ) -> End
-    requires part { IsFairPart mode q.now.size (entry q.now) limit judged.now final_word }
+    requires ends { IsFairEnds mode q.now.size (entry q.now) limit judged.now final_word }
     requires limited { limit ≤ 200 }
     requires fits { Fits q.now.size (entry q.now) unit_vectors }
     requires bound_fits { BoundFits mode q.now.size (entry q.now) }
@@ -142,6 +144,45 @@ fn found(alloc: Global, q: &SymInt, limit: u8, judged: &[Judged], final_word: u6
             vectors,
         },
         Err(_) => Least::OutOfMemory,
+    }
+}
+
+/// The answer of the search for the least value, from the low judgements and the ends of a fair list, in any order, and the keys of the
+/// generators that attain the final bound.
+pub fn settle_least_noted(
+    alloc: Global,
+    q: &SymInt,
+    limit: u8,
+    judged: &[Judged],
+    noted: BTreeSet<Key>,
+    final_word: u64,
+) -> Least
+    requires part { IsFairNoted Mode.Least q.now.size (entry q.now) limit judged.now noted.keys final_word }
+    requires limited { limit ≤ 200 }
+    requires fits { Fits q.now.size (entry q.now) unit_vectors }
+    requires bound_fits { BoundFits Mode.Least q.now.size (entry q.now) }
+    ensures { IsLeastAnswer q.now.size (entry q.now) limit result }
+{
+    let n = q.n();
+    match end_of(alloc, Mode::Least, q, limit, judged, final_word) {
+        End::Low {
+            vector,
+            value,
+            path,
+        } => Least::Low {
+            vector,
+            value,
+            path,
+        },
+        End::Depth { path } => Least::Depth { path },
+        End::Wide { at } => Least::Wide { at },
+        End::Closed => match listed(alloc, n, noted) {
+            Ok(vectors) => Least::Found {
+                minimum: i128::from(bound_under(Mode::Least, final_word)),
+                vectors,
+            },
+            Err(_) => Least::OutOfMemory,
+        },
     }
 }
 

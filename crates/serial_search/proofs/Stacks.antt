@@ -1,9 +1,10 @@
 -- A search with a stack is the machine with one hand.
 --
--- | search_starts, search_step, search_ends | the search that keeps what is needed |
--- | top_within, top_named, top_others | what such a search knows of its top |
 -- | plain_starts, plain_step, plain_ends | the search that keeps every judgement |
-use Rattle.std.specs.Prelude.{◌≡◌, ◌≢◌, ℕ, zero, suc, ◌<◌, ◌≤◌, ◌+◌, ◌-◌, ◌*◌, ◌^◌, min, ℤ, ◌≤ℤ◌, ◌<ℤ◌, ◌⊎◌, Bool, true, false, Some}
+-- | plain_within | what such a search knows of its top |
+-- | search_starts, search_step, search_ends | the search that keeps what is needed, and notes what attains the bound |
+-- | top_within, top_named, top_others | what such a search knows of its top |
+use Rattle.std.specs.Prelude.{◌≡◌, ◌≢◌, ℕ, zero, suc, ◌<◌, ◌≤◌, ◌+◌, ◌-◌, ◌*◌, ◌^◌, min, ℤ, pos, ◌≤ℤ◌, ◌⊎◌, Bool, true, false, Some}
 use Rattle.std.specs.Prelude.{List, [], ◌∷◌, ◌++◌, length, map}
 use Rattle.std.specs.List.{Contains}
 use Rattle.std.proofs.Common.{arith, sym, ◌∙◌, ap, ap₂, refl, inl, inr, subst, length-append, append_assoc}
@@ -23,21 +24,21 @@ use Rattle.exact_forms.proofs.Lists.{top_in, nothing_in}
 use Rattle.search_core.specs.declared.Fate.{Fate}
 use Rattle.search_core.specs.declared.Fate.TheVariants.{Closed, Split, Low, Dropped, AtLimit, Wide}
 use Rattle.search_core.specs.declared.Judged.{Judged}
-use Rattle.search_core.specs.Fair.{code, start_word, bound_under, IsSplit, IsLowFate, IsEndFate, IsFate, IsFair, IsFairPart, IsSameGenerator, HasGenerator}
+use Rattle.search_core.specs.Fair.{code, start_word, bound_under, IsSplit, IsLowFate, IsEndFate, IsFate, IsFair, HasLowAndEnds, IsSameGenerator}
 use Rattle.search_core.specs.declared.NewGenerators.{NewGenerators}
 use Rattle.search_core.specs.declared.NewGenerators.TheVariants.{Each, One, NoOne}
-use Rattle.search_core.specs.Kept.{IsNew, NamesNew, new_after, IsUnneededFate, IsConeKept}
+use Rattle.search_core.specs.Attaining.{IsPadded, IsKeyOf}
+use Rattle.search_core.specs.Kept.{IsUnneededFate, IsConeKept}
+use Rattle.search_core.specs.Noting.{IsNew, NamesNew, new_after, IsLeft, IsNoted, HasKey, IsFairNoted}
 use Rattle.search_core.specs.Lowering.{IsNotUnder, AreOthersOver, HasOthersOver}
 use Rattle.search_core.specs.Judging.{shown_code, shown_least, IsShownFate, IsJudgementOf}
-use Rattle.search_core.specs.Machine.{IsKept, times, paths, standing, due}
+use Rattle.search_core.specs.Machine.{IsKept}
 use Rattle.search_core.proofs.ShownFates.{shown_code_at, shown_least_at, fate_at, path_fate}
 use Rattle.search_core.proofs.PathFates.{IsPathFate}
 use Rattle.search_core.proofs.Laws.{fate_unique}
 use Rattle.search_core.proofs.Deciding.{code_not_under}
-use Rattle.search_core.proofs.Finish.{stands_judged}
-use Rattle.search_core.proofs.Kept.{times_standing}
-use Rattle.search_core.proofs.Reaching.{counted_in_tree}
-use Rattle.search_core.proofs.SameGenerators.{same_itself, same_value, has_same, first_other, second_other, second_mediant}
+use Rattle.search_core.proofs.Keys.{padded_at, padded_same, same_key}
+use Rattle.search_core.proofs.SameGenerators.{same_itself, same_value, first_other, second_other, second_mediant}
 use Rattle.search_core.proofs.Serial.{alone, alone_start, alone_end, stacked, stack_turn}
 use Rattle.serial_search.specs.Turns.{IsOnTop, AreChildrenOn, AreStacked}
 use Rattle.serial_search.proofs.Tops.{same_top}
@@ -102,11 +103,134 @@ module _ (d : ℕ) (stack front new : List ShownCone) (cone : ShownCone) (within
       by (AtLimit w) short s = gone s
       by (Wide w a) short s = gone s
 
--- ---- what is kept
--- a kept judgement has generator k of the cone at path, if its value is at most the word's bound
-abbrev pub IsCovered : Mode → ℕ → Matrix → ℕ → List Judged → Path → ℕ → Type 0
-IsCovered m n q word kept path k = m ≡ Least → 256 ≤ word → value n q (cone_at n q path) k ≤ℤ bound_under Least word
-    → HasGenerator n q kept path k
+-- ---- the cones of a new stack
+in_front : (stack front : List ShownCone) (cone : ShownCone) → IsOnTop cone front stack → (c : ShownCone) → Contains front c → Contains stack c
+in_front stack front cone popped c there = subst (λ (s : List ShownCone). Contains s c) (sym popped) (Contains-append_left front (cone ∷ []) c there)
+
+each_new : (cone : ShownCone) (i j : ℕ) (front new : List ShownCone) (s : AreChildrenOn cone i j front new) (P : ShownCone → Type 0)
+    → ((c : ShownCone) → Contains front c → P c) → P s.second → P s.first → (c : ShownCone) → Contains new c → P c
+each_new cone i j front new s P fronts second first c there =
+    by (Contains-append_cases front (s.second ∷ s.first ∷ []) c (subst (λ (x : List ShownCone). Contains x c) s.stack there))
+  where
+    of_one : ((s.first ≡ c) ⊎ Contains [] c) → P c
+    of_one (inl e) = subst P e first
+    of_one (inr k) = absurd (nothing_in c k)
+
+    of_two : ((s.second ≡ c) ⊎ Contains (s.first ∷ []) c) → P c
+    of_two (inl e) = subst P e second
+    of_two (inr k) = of_one (contains_cons s.first [] c k)
+
+    by : (Contains front c ⊎ Contains (s.second ∷ s.first ∷ []) c) → P c
+    by (inl k) = fronts c k
+    by (inr k) = of_two (contains_cons s.second (s.first ∷ []) c k)
+
+-- ---- what stands of a search that has judged these cones
+pub record IsSearchedPlainly (m : Mode) (n : ℕ) (q : Matrix) (d : ℕ) (stack : List ShownCone) (word : ℕ) (judged : List Judged) : Type 0 where
+  pub state : IsKept m n q d (alone (map path_of stack) word judged)
+  pub cones : (c : ShownCone) → Contains stack c → IsConeAt n q c.path c × (length c.path ≤ d)
+
+pub plain_starts : (m : Mode) (n : ℕ) (q : Matrix) (d : ℕ) (root : ShownCone) → IsConeAt n q [] root
+    → IsSearchedPlainly m n q d (root ∷ []) (start_word m n q) []
+plain_starts m n q d root at = record {
+  state = subst (λ (p : Path). IsKept m n q d (alone (p ∷ []) (start_word m n q) [])) (sym at.path_is) (alone_start m n q d);
+  cones = λ c h. by c (contains_cons root [] c h);
+}
+  where
+    by : (c : ShownCone) → ((root ≡ c) ⊎ Contains [] c) → IsConeAt n q c.path c × (length c.path ≤ d)
+    by c (inl e) = subst (λ (r : ShownCone). IsConeAt n q r.path r × (length r.path ≤ d)) e
+        ((subst (λ (p : Path). IsConeAt n q p root) (sym at.path_is) at), (let l : length root.path ≡ 0 = ap length at.path_is in omega arith))
+    by c (inr h) = absurd (nothing_in c h)
+
+pub plain_ends : (m : Mode) (n : ℕ) (q : Matrix) (d : ℕ) (stack : List ShownCone) (word : ℕ) (judged : List Judged) → stack ≡ []
+    → IsSearchedPlainly m n q d stack word judged → IsFair m n q d judged word
+plain_ends m n q d stack word judged e h =
+    alone_end m n q d word judged (subst (λ (s : List ShownCone). IsKept m n q d (alone (map path_of s) word judged)) e h.state)
+
+pub plain_within : {m : Mode} {n : ℕ} {q : Matrix} {d : ℕ} {stack : List ShownCone} {word : ℕ} {judged : List Judged}
+    → IsSearchedPlainly m n q d stack word judged → (rest : List ShownCone) (cone : ShownCone) → IsOnTop cone rest stack → length cone.path ≤ d
+plain_within {m} {n} {q} {d} {stack} {word} {judged} h rest cone top = (h.cones cone (top_in stack rest cone top)).1
+
+-- one turn
+module _ (m : Mode) (n : ℕ) (q : Matrix) (d : ℕ) (stack front new : List ShownCone) (cone : ShownCone) (word : ℕ) (judged : List Judged) (j : Judged)
+    (some : 1 ≤ n) (h : IsSearchedPlainly m n q d stack word judged)
+    (popped : IsOnTop cone front stack) (is : IsJudgementOf m cone d (min word (shown_code m cone)) j) (stacks : AreStacked cone j.fate front new) where
+  on_top : Contains stack cone
+  on_top = top_in stack front cone popped
+
+  at : IsConeAt n q cone.path cone
+  at = (h.cones cone on_top).0
+
+  by_path : min word (shown_code m cone) ≡ min word (code m n q cone.path)
+  by_path = ap (min word) (shown_code_at m n q cone.path cone some at)
+
+  fate : IsFate m n q d cone.path (min word (code m n q cone.path)) j.fate
+  fate = subst (λ (w : ℕ). IsFate m n q d cone.path w j.fate) by_path (fate_at m n q d (min word (shown_code m cone)) cone.path cone j.fate at is.fate)
+
+  turned : IsKept m n q d (alone (map path_of front ++ stacked cone.path j.fate) (min word (shown_code m cone)) (j ∷ judged))
+  turned = subst (λ (w : ℕ). IsKept m n q d (alone (map path_of front ++ stacked cone.path j.fate) w (j ∷ judged))) (sym by_path)
+      (stack_turn m n q d (map path_of front) cone.path word judged j
+      (subst (λ (s : List Path). IsKept m n q d (alone s word judged)) (ap (map path_of) popped ∙ map-append path_of front (cone ∷ [])) h.state)
+      is.path_is (is.least_is ∙ shown_least_at n q cone.path cone some at) fate)
+
+  paths_new : (f : Fate) → AreStacked cone f front new → map path_of front ++ stacked cone.path f ≡ map path_of new
+  paths_new (Split a b w) s = ap₂ (λ (x : Path) (y : Path). map path_of front ++ x ∷ y ∷ []) (sym s.is_second.path_is) (sym s.is_first.path_is)
+      ∙ sym (map-append path_of front (s.second ∷ s.first ∷ [])) ∙ ap (map path_of) (sym s.stack)
+  paths_new (Closed w) s = append-nil (map path_of front) ∙ ap (map path_of) (sym s)
+  paths_new (Low k) s = append-nil (map path_of front) ∙ ap (map path_of) (sym s)
+  paths_new (Dropped w) s = append-nil (map path_of front) ∙ ap (map path_of) (sym s)
+  paths_new (AtLimit w) s = append-nil (map path_of front) ∙ ap (map path_of) (sym s)
+  paths_new (Wide w a) s = append-nil (map path_of front) ∙ ap (map path_of) (sym s)
+
+  -- ---- the new stack
+  gone : new ≡ front → (c : ShownCone) → Contains new c → IsConeAt n q c.path c × (length c.path ≤ d)
+  gone e c there = h.cones c (in_front stack front cone popped c (subst (λ (s : List ShownCone). Contains s c) e there))
+
+  split : (a b : ℕ) → AreChildrenOn cone (a - 1) (b - 1) front new → length cone.path ≢ d → IsPair cone.size (shown_gram cone) (a - 1) (b - 1)
+      → (c : ShownCone) → Contains new c → IsConeAt n q c.path c × (length c.path ≤ d)
+  split a b s ne p = each_new cone (a - 1) (b - 1) front new s (λ (c : ShownCone). IsConeAt n q c.path c × (length c.path ≤ d))
+      (λ c there. h.cones c (in_front stack front cone popped c there)) (a_child true s.second s.is_second) (a_child false s.first s.is_first)
+    where
+      a_child : (side : Bool) (r : ShownCone) → IsChild cone (a - 1) (b - 1) side r → IsConeAt n q r.path r × (length r.path ≤ d)
+      a_child side r is = (
+        subst (λ (p : Path). IsConeAt n q p r) (sym is.path_is) (child_at_path n q cone.path cone at (a - 1) (b - 1) side r p is),
+        (let l : length r.path ≡ length cone.path + 1 = ap length is.path_is ∙ length-append cone.path (side ∷ []) in
+            let short : length cone.path < d = below_unless_same (length cone.path) d (h.cones cone on_top).1 ne in omega arith),
+      )
+
+  cones_new : (f : Fate) → IsShownFate m cone d (min word (shown_code m cone)) f → AreStacked cone f front new
+      → (c : ShownCone) → Contains new c → IsConeAt n q c.path c × (length c.path ≤ d)
+  cones_new (Split a b w) (e, u, ne, (some_row, p), fits) s = split a b s ne p
+  cones_new (Closed w) g s = gone s
+  cones_new (Low k) g s = gone s
+  cones_new (Dropped w) g s = gone s
+  cones_new (AtLimit w) g s = gone s
+  cones_new (Wide w a) g s = gone s
+
+  -- ---- it falls
+  fewer_left : cones_left d new < cones_left d stack
+  fewer_left = fewer_cones d stack front new cone (h.cones cone on_top).1 popped j.fate (λ split. short j.fate is.fate split) stacks
+    where
+      short : (f : Fate) → IsShownFate m cone d (min word (shown_code m cone)) f → IsSplit f → length cone.path ≢ d
+      short (Split a b w) (e, u, ne, p, fits) s = ne
+      short (Closed w) g s = absurd s
+      short (Low k) g s = absurd s
+      short (Dropped w) g s = absurd s
+      short (AtLimit w) g s = absurd s
+      short (Wide w a) g s = absurd s
+
+  pub plain_step : IsSearchedPlainly m n q d new (min word (shown_code m cone)) (j ∷ judged) × (cones_left d new < cones_left d stack)
+  plain_step = (
+    record {
+      state = subst (λ (s : List Path). IsKept m n q d (alone s (min word (shown_code m cone)) (j ∷ judged))) (paths_new j.fate stacks) turned;
+      cones = cones_new j.fate is.fate stacks;
+    },
+    fewer_left,
+  )
+
+-- ---- a search that keeps what is needed and notes what attains the bound
+-- the key of generator k of the cone at path is noted, if its value is at most the word's bound
+abbrev pub IsCovered : ℕ → Matrix → ℕ → List (List ℕ) → Path → ℕ → Type 0
+IsCovered n q word keys path k = 256 < word → value n q (cone_at n q path) k ≤ℤ bound_under Least word → HasKey n q keys path k
 
 -- generator k of the cone at path is a new one of the top
 pub record IsNewOnTop (n : ℕ) (q : Matrix) (stack : List ShownCone) (fresh : NewGenerators) (path : Path) (k : ℕ) : Type 0 where
@@ -117,25 +241,28 @@ pub record IsNewOnTop (n : ℕ) (q : Matrix) (stack : List ShownCone) (fresh : N
   pub is_new : IsNew fresh l
   pub same : IsSameGenerator n q path k top.path l
 
--- the low judgements and the ends are kept, and each generator is covered
-pub record HasKept (m : Mode) (n : ℕ) (q : Matrix) (word : ℕ) (all kept : List Judged) : Type 0 where
-  pub within : (j : Judged) → Contains kept j → Contains all j
-  pub low : (j : Judged) → Contains all j → IsLowFate j.fate → Contains kept j
-  pub ends : (j : Judged) → Contains all j → IsEndFate j.fate → Contains kept j
-  pub covered : (j : Judged) (k : ℕ) → Contains all j → k < n → IsCovered m n q word kept j.path k
+-- the key is that of a generator of a judged cone that attains the word's bound
+abbrev pub IsOfJudged : ℕ → Matrix → ℕ → List Judged → List ℕ → Type 0
+IsOfJudged n q word all x = (j : Judged) × (k : ℕ) × Contains all j × (k < n) × IsPadded n x (cone_at n q j.path k)
+    × (value n q (cone_at n q j.path) k ≡ bound_under Least word)
+
+-- the keys are those of the generators of judged cones that attain the word's bound
+pub record HasNoted (n : ℕ) (q : Matrix) (word : ℕ) (all : List Judged) (keys : List (List ℕ)) : Type 0 where
+  pub each : 256 < word → (x : List ℕ) → Contains keys x → IsOfJudged n q word all x
+  pub covered : (j : Judged) (k : ℕ) → Contains all j → k < n → IsCovered n q word keys j.path k
 
 -- each generator of a cone on the stack is covered, or is a new one of the top
-pub record IsStack (m : Mode) (n : ℕ) (q : Matrix) (d : ℕ) (stack : List ShownCone) (word : ℕ) (fresh : NewGenerators) (kept : List Judged) : Type 0 where
-  pub cones : (c : ShownCone) → Contains stack c → IsConeAt n q c.path c × (length c.path ≤ d)
-  pub waiting : (c : ShownCone) → Contains stack c → (k : ℕ) → k < n → IsCovered m n q word kept c.path k ⊎ IsNewOnTop n q stack fresh c.path k
+pub record IsStack (n : ℕ) (q : Matrix) (stack : List ShownCone) (word : ℕ) (fresh : NewGenerators) (keys : List (List ℕ)) : Type 0 where
+  pub waiting : (c : ShownCone) → Contains stack c → (k : ℕ) → k < n → IsCovered n q word keys c.path k ⊎ IsNewOnTop n q stack fresh c.path k
   pub named : NamesNew n fresh
 
 pub record IsSearching (m : Mode) (n : ℕ) (q : Matrix) (d : ℕ) (stack : List ShownCone) (word : ℕ) (fresh : NewGenerators) (kept : List Judged)
-    : Type 0 where
+    (keys : List (List ℕ)) : Type 0 where
   pub all : List Judged
-  pub state : IsKept m n q d (alone (map path_of stack) word all)
-  pub has : HasKept m n q word all kept
-  pub stack_is : IsStack m n q d stack word fresh kept
+  pub plain : IsSearchedPlainly m n q d stack word all
+  pub has : HasLowAndEnds all kept
+  pub noted : HasNoted n q word all keys
+  pub stack_is : IsStack n q stack word fresh keys
 
 -- a value is over the bound of a word over 256, or within it
 over_or_within : (z : ℤ) (word : ℕ) → 256 < word → IsNotUnder word z ⊎ (z ≤ℤ bound_under Least word)
@@ -146,59 +273,47 @@ large_word_is_least : (m : Mode) (n : ℕ) (q : Matrix) (word : ℕ) → 256 < w
 large_word_is_least Sign n q word over le = absurd (omega arith)
 large_word_is_least Least n q word over le = refl
 
+-- a generator whose key is noted attains the bound
+key_attains : (n : ℕ) (q : Matrix) (word : ℕ) (all : List Judged) (keys : List (List ℕ)) → HasNoted n q word all keys → 256 < word → (path : Path) (k : ℕ)
+    → HasKey n q keys path k → value n q (cone_at n q path) k ≡ bound_under Least word
+key_attains n q word all keys h over path k (x, there, padded) =
+    let (j, l, judged, range, other, attains) = h.each over x there in
+    sym (same_value n q path j.path k l (same_key n q path j.path k l x range padded other)) ∙ attains
+
+has_key_same : (n : ℕ) (q : Matrix) (keys : List (List ℕ)) (path other : Path) (k l : ℕ) → IsSameGenerator n q path k other l
+    → HasKey n q keys other l → HasKey n q keys path k
+has_key_same n q keys path other k l s (x, there, p) = (x, there, padded_same n x (cone_at n q other l) (cone_at n q path k) s.same p)
+
 module _ (m : Mode) (n : ℕ) (q : Matrix) (d : ℕ) (stack rest : List ShownCone) (cone : ShownCone) (word : ℕ) (fresh : NewGenerators) (kept : List Judged)
-    (h : IsSearching m n q d stack word fresh kept) (top : IsOnTop cone rest stack) where
+    (keys : List (List ℕ)) (h : IsSearching m n q d stack word fresh kept keys) (top : IsOnTop cone rest stack) where
+  at_top : IsConeAt n q cone.path cone
+  at_top = (h.plain.cones cone (top_in stack rest cone top)).0
+
   pub top_within : length cone.path ≤ d
-  top_within = (h.stack_is.cones cone (top_in stack rest cone top)).1
+  top_within = plain_within h.plain rest cone top
 
   pub top_named : NamesNew cone.size fresh
-  top_named = subst (λ (k : ℕ). NamesNew k fresh) (sym (h.stack_is.cones cone (top_in stack rest cone top)).0.cone.size) h.stack_is.named
+  top_named = subst (λ (k : ℕ). NamesNew k fresh) (sym at_top.cone.size) h.stack_is.named
 
-  at_top : IsConeAt n q cone.path cone
-  at_top = (h.stack_is.cones cone (top_in stack rest cone top)).0
-
-  judged_short : (j : Judged) → Contains h.all j → length j.path ≤ d
-  judged_short j there = (counted_in_tree m n q d word h.all h.state.judgements counts j.path due_here).short
-    where
-      counts : (y : Path) → times y (paths h.all) ≤ times y (due h.all)
-      counts y =
-          let a : times y (standing (alone (map path_of stack) word h.all)) ≡ times y (due h.all) = h.state.stands y in
-          let b = times_standing y (alone (map path_of stack) word h.all) in
-          omega arith
-
-      due_here : 1 ≤ times j.path (due h.all)
-      due_here = let a : 1 ≤ times j.path (paths h.all) = stands_judged h.all j there in let b = counts j.path in omega arith
-
-  -- a generator that a judged cone has is not under the word, which is at most that cone's code
-  judged_over : d ≤ 200 → m ≡ Least → 256 < word → (path : Path) (k : ℕ) → HasGenerator n q kept path k
-      → IsNotUnder word (value n q (cone_at n q path) k)
-  judged_over limited mode over path k (j, l, there, same) =
-      let short : length j.path ≤ d = judged_short j (h.has.within j there) in
-      let coded : word ≤ code Least n q j.path = subst (λ (m : Mode). word ≤ code m n q j.path) mode
-      (h.state.below_codes j.path (inl (j, h.has.within j there, refl))) in
-      subst (IsNotUnder word) (same_value n q path j.path k l same) (code_not_under n q j.path word (omega arith) over coded l same.range)
-
-  covered_over : d ≤ 200 → m ≡ Least → 256 < word → (path : Path) (k : ℕ) → IsCovered m n q word kept path k
-      → IsNotUnder word (value n q (cone_at n q path) k)
-  covered_over limited mode over path k covered = by (over_or_within (value n q (cone_at n q path) k) word over)
+  covered_over : 256 < word → (path : Path) (k : ℕ) → IsCovered n q word keys path k → IsNotUnder word (value n q (cone_at n q path) k)
+  covered_over over path k covered = by (over_or_within (value n q (cone_at n q path) k) word over)
     where
       by : (IsNotUnder word (value n q (cone_at n q path) k) ⊎ (value n q (cone_at n q path) k ≤ℤ bound_under Least word))
           → IsNotUnder word (value n q (cone_at n q path) k)
       by (inl u) = u
-      by (inr b) = judged_over limited mode over path k (covered mode (omega arith) b)
+      by (inr b) =
+          let e : value n q (cone_at n q path) k ≡ bound_under Least word = key_attains n q word h.all keys h.noted over path k (covered over b) in
+          omega (arith, ints)
 
-  is_least : 256 < word → m ≡ Least
-  is_least over = large_word_is_least m n q word over h.state.below_start
-
-  others_over : d ≤ 200 → 256 < word → (m ≡ Least) × AreOthersOver cone fresh word
-  others_over limited over = (
-    is_least over,
+  others_over : 256 < word → (m ≡ Least) × AreOthersOver cone fresh word
+  others_over over = (
+    large_word_is_least m n q word over h.plain.state.below_start,
     λ k l. by k (rw (sym at_top.cone.size) l) (h.stack_is.waiting cone (top_in stack rest cone top) k (rw (sym at_top.cone.size) l)),
   )
     where
-      by : (k : ℕ) → k < n → (IsCovered m n q word kept cone.path k ⊎ IsNewOnTop n q stack fresh cone.path k)
+      by : (k : ℕ) → k < n → (IsCovered n q word keys cone.path k ⊎ IsNewOnTop n q stack fresh cone.path k)
           → IsNotUnder word (shown_gram cone k k) ⊎ ((l : ℕ) × (l < cone.size) × IsNew fresh l × (shown_gram cone k k ≡ shown_gram cone l l))
-      by k l (inl c) = inl (rw (value_at n q cone.path cone at_top k l) (covered_over limited (is_least over) over cone.path k c))
+      by k l (inl c) = inl (rw (value_at n q cone.path cone at_top k l) (covered_over over cone.path k c))
       by k l (inr t) =
           let same : IsSameGenerator n q cone.path k cone.path t.l =
           subst (λ (c : ShownCone). IsSameGenerator n q cone.path k c.path t.l) (same_top stack t.rest rest t.top cone t.on_top top) t.same in
@@ -210,8 +325,8 @@ module _ (m : Mode) (n : ℕ) (q : Matrix) (d : ℕ) (stack rest : List ShownCon
                 ∙ sym (value_at n q cone.path cone at_top t.l same.range),
           )
 
-  pub top_others : d ≤ 200 → HasOthersOver m cone fresh word
-  top_others limited = by fresh (others_over limited)
+  pub top_others : HasOthersOver m cone fresh word
+  top_others = by fresh others_over
     where
       by : (f : NewGenerators) → (256 < word → (m ≡ Least) × AreOthersOver cone f word) → HasOthersOver m cone f word
       by Each o = tt
@@ -220,28 +335,15 @@ module _ (m : Mode) (n : ℕ) (q : Matrix) (d : ℕ) (stack rest : List ShownCon
 
 -- ---- the start
 pub search_starts : (m : Mode) (n : ℕ) (q : Matrix) (d : ℕ) (root : ShownCone) → IsConeAt n q [] root
-    → IsSearching m n q d (root ∷ []) (start_word m n q) Each []
+    → IsSearching m n q d (root ∷ []) (start_word m n q) Each [] []
 search_starts m n q d root at = record {
   all = [];
-  state = subst (λ (p : Path). IsKept m n q d (alone (p ∷ []) (start_word m n q) [])) (sym at.path_is) (alone_start m n q d);
-  has = record {
-    within = λ j c. absurd (nothing_in j c);
-    low = λ j c. absurd (nothing_in j c);
-    ends = λ j c. absurd (nothing_in j c);
-    covered = λ j k c. absurd (nothing_in j c);
-  };
-  stack_is = record {
-    cones = λ c h. by c (contains_cons root [] c h);
-    waiting = λ c h k l. inr (new c k l (contains_cons root [] c h));
-    named = tt;
-  };
+  plain = plain_starts m n q d root at;
+  has = record { within = λ j c. absurd (nothing_in j c); low = λ j c. absurd (nothing_in j c); ends = λ j c. absurd (nothing_in j c) };
+  noted = record { each = λ over x c. absurd (nothing_in x c); covered = λ j k c. absurd (nothing_in j c) };
+  stack_is = record { waiting = λ c h k l. inr (new c k l (contains_cons root [] c h)); named = tt };
 }
   where
-    by : (c : ShownCone) → ((root ≡ c) ⊎ Contains [] c) → IsConeAt n q c.path c × (length c.path ≤ d)
-    by c (inl e) = subst (λ (r : ShownCone). IsConeAt n q r.path r × (length r.path ≤ d)) e
-        ((subst (λ (p : Path). IsConeAt n q p root) (sym at.path_is) at), (let l : length root.path ≡ 0 = ap length at.path_is in omega arith))
-    by c (inr h) = absurd (nothing_in c h)
-
     new : (c : ShownCone) (k : ℕ) → k < n → ((root ≡ c) ⊎ Contains [] c) → IsNewOnTop n q (root ∷ []) Each c.path k
     new c k l (inl e) = subst (λ (r : ShownCone). IsNewOnTop n q (root ∷ []) Each r.path k) e
         (record { top = root; rest = []; on_top = refl; l = k; is_new = tt; same = same_itself n q root.path k l })
@@ -249,16 +351,10 @@ search_starts m n q d root at = record {
 
 -- ---- the end
 pub search_ends : (m : Mode) (n : ℕ) (q : Matrix) (d : ℕ) (stack : List ShownCone) (word : ℕ) (fresh : NewGenerators) (kept : List Judged)
-    → stack ≡ [] → IsSearching m n q d stack word fresh kept → IsFairPart m n q d kept word
-search_ends m n q d stack word fresh kept e h = record {
-  all = h.all;
-  fair = alone_end m n q d word h.all (subst (λ (s : List ShownCone). IsKept m n q d (alone (map path_of s) word h.all)) e h.state);
-  relevant = record {
-    within = h.has.within;
-    low = h.has.low;
-    ends = h.has.ends;
-    attaining = λ mode large j k c l val. h.has.covered j k c l mode large (at_most _ _ val);
-  };
+    (keys : List (List ℕ)) → stack ≡ [] → IsSearching m n q d stack word fresh kept keys → IsFairNoted m n q d kept keys word
+search_ends m n q d stack word fresh kept keys e h = record {
+  ends = record { all = h.all; fair = plain_ends m n q d stack word h.all e h.plain; has = h.has };
+  noted = λ over. record { each = h.noted.each over; all = λ j k c least l val. h.noted.covered j k c l over (at_most _ _ val) };
 }
   where
     at_most : (a b : ℤ) → a ≡ b → a ≤ℤ b
@@ -266,75 +362,59 @@ search_ends m n q d stack word fresh kept e h = record {
 
 -- ---- one turn
 module _ (m : Mode) (n : ℕ) (q : Matrix) (d : ℕ) (stack front new : List ShownCone) (cone : ShownCone) (word lower : ℕ) (fresh : NewGenerators) (f : Fate)
-    (kept kept' : List Judged) (some : 1 ≤ n) (h : IsSearching m n q d stack word fresh kept) (popped : IsOnTop cone front stack)
+    (kept kept' : List Judged) (keys keys' : List (List ℕ)) (some : 1 ≤ n) (limited : d ≤ 200) (h : IsSearching m n q d stack word fresh kept keys)
+    (popped : IsOnTop cone front stack)
     (lowered : lower ≡ min word (shown_code m cone)) (shown : IsShownFate m cone d lower f) (stacks : AreStacked cone f front new)
-    (noted : IsConeKept m d lower cone fresh f kept kept') where
+    (keeps : IsConeKept m d lower cone f kept kept') (notes : IsNoted cone fresh word lower keys keys') where
   abbrev j : Judged
   j = record { path = cone.path; fate = f; least = shown_least cone }
 
-  on_top : Contains stack cone
-  on_top = top_in stack front cone popped
+  cone_stands : Contains stack cone
+  cone_stands = top_in stack front cone popped
 
-  at : IsConeAt n q cone.path cone
-  at = (h.stack_is.cones cone on_top).0
+  at_cone : IsConeAt n q cone.path cone
+  at_cone = (h.plain.cones cone cone_stands).0
 
-  by_path : lower ≡ min word (code m n q cone.path)
-  by_path = lowered ∙ ap (min word) (shown_code_at m n q cone.path cone some at)
+  next : IsSearchedPlainly m n q d new lower (j ∷ h.all) × (cones_left d new < cones_left d stack)
+  next = subst (λ (w : ℕ). IsSearchedPlainly m n q d new w (j ∷ h.all) × (cones_left d new < cones_left d stack)) (sym lowered)
+      (plain_step m n q d stack front new cone word h.all j some h.plain popped
+      (record { path_is = refl; least_is = refl; fate = subst (λ (w : ℕ). IsShownFate m cone d w f) lowered shown }) stacks)
 
-  fate : IsFate m n q d cone.path (min word (code m n q cone.path)) f
-  fate = subst (λ (w : ℕ). IsFate m n q d cone.path w f) by_path (fate_at m n q d lower cone.path cone f at shown)
-
-  -- the judgement that is kept is that of this fate, since a cone has but one
+  -- ---- the judgements that are kept: the one that is kept is that of this fate, since a cone has but one
   abbrev IsKeptOrNot : Type 0
-  IsKeptOrNot = (kept' ≡ kept ++ j ∷ []) ⊎ ((kept' ≡ kept) × IsUnneededFate m lower cone fresh f)
+  IsKeptOrNot = (kept' ≡ kept ++ j ∷ []) ⊎ ((kept' ≡ kept) × IsUnneededFate f)
 
-  keeps : IsKeptOrNot
-  keeps = by noted
+  keeps_this : IsKeptOrNot
+  keeps_this = by keeps
     where
       fate_of_path : (g : Fate) → IsShownFate m cone d lower g → IsPathFate m n q d cone.path lower g
-      fate_of_path g is = path_fate m n q d cone.path lower g (cone, at, is)
+      fate_of_path g is = path_fate m n q d cone.path lower g (cone, at_cone, is)
 
       this : (p : Judged) → IsJudgementOf m cone d lower p → p ≡ j
       this p is = ap₂ (λ (r : Path) (z : ℤ). record { path = r; fate = p.fate; least = z }) is.path_is is.least_is
           ∙ ap (λ (g : Fate). record { path = cone.path; fate = g; least = shown_least cone })
           (fate_unique m n q d cone.path lower p.fate f (fate_of_path p.fate is.fate) (fate_of_path f shown))
 
-      by : IsConeKept m d lower cone fresh f kept kept' → IsKeptOrNot
+      by : IsConeKept m d lower cone f kept kept' → IsKeptOrNot
       by (inl (p, is, e)) = inl (e ∙ ap (λ (p : Judged). kept ++ p ∷ []) (this p is))
       by (inr u) = inr u
 
-  turned : IsKept m n q d (alone (map path_of front ++ stacked cone.path f) lower (j ∷ h.all))
-  turned = subst (λ (w : ℕ). IsKept m n q d (alone (map path_of front ++ stacked cone.path f) w (j ∷ h.all))) (sym by_path)
-      (stack_turn m n q d (map path_of front) cone.path word h.all j
-      (subst (λ (s : List Path). IsKept m n q d (alone s word h.all)) (ap (map path_of) popped ∙ map-append path_of front (cone ∷ [])) h.state)
-      refl (shown_least_at n q cone.path cone some at) fate)
-
-  paths_new : (f : Fate) → AreStacked cone f front new → map path_of front ++ stacked cone.path f ≡ map path_of new
-  paths_new (Split a b w) s = ap₂ (λ (x : Path) (y : Path). map path_of front ++ x ∷ y ∷ []) (sym s.is_second.path_is) (sym s.is_first.path_is)
-      ∙ sym (map-append path_of front (s.second ∷ s.first ∷ [])) ∙ ap (map path_of) (sym s.stack)
-  paths_new (Closed w) s = append-nil (map path_of front) ∙ ap (map path_of) (sym s)
-  paths_new (Low k) s = append-nil (map path_of front) ∙ ap (map path_of) (sym s)
-  paths_new (Dropped w) s = append-nil (map path_of front) ∙ ap (map path_of) (sym s)
-  paths_new (AtLimit w) s = append-nil (map path_of front) ∙ ap (map path_of) (sym s)
-  paths_new (Wide w a) s = append-nil (map path_of front) ∙ ap (map path_of) (sym s)
-
-  -- ---- the judgements that are kept
   stays : (p : Judged) → Contains kept p → Contains kept' p
-  stays p c = by keeps
+  stays p c = by keeps_this
     where
       by : IsKeptOrNot → Contains kept' p
       by (inl e) = subst (λ (l : List Judged). Contains l p) (sym e) (Contains-append_left kept (j ∷ []) p c)
       by (inr (e, u)) = subst (λ (l : List Judged). Contains l p) (sym e) c
 
-  needed : (¬ IsUnneededFate m lower cone fresh f) → Contains kept' j
-  needed not = by keeps
+  needed : (¬ IsUnneededFate f) → Contains kept' j
+  needed not = by keeps_this
     where
       by : IsKeptOrNot → Contains kept' j
       by (inl e) = subst (λ (l : List Judged). Contains l j) (sym e) (Contains-push kept j)
       by (inr (e, u)) = absurd (not u)
 
   within : (p : Judged) → Contains kept' p → Contains (j ∷ h.all) p
-  within p c = by keeps
+  within p c = by keeps_this
     where
       old_or_this : (Contains kept p ⊎ (j ≡ p)) → Contains (j ∷ h.all) p
       old_or_this (inl o) = contains_there j h.all p (h.has.within p o)
@@ -352,94 +432,107 @@ module _ (m : Mode) (n : ℕ) (q : Matrix) (d : ℕ) (stack front new : List Sho
   ends p (inl e) is = subst (Contains kept') e (needed (λ u. u.no_end (subst (λ (r : Judged). IsEndFate r.fate) (sym e) is)))
   ends p (inr c) is = stays p (h.has.ends p c is)
 
-  -- ---- the generators that are covered
-  still_covered : (path : Path) (k : ℕ) → IsCovered m n q word kept path k → IsCovered m n q lower kept' path k
-  still_covered path k c mode large below = more (c mode (omega (arith, lowered, large)) (wider large below))
+  -- ---- the keys that are noted
+  falls : lower ≤ word
+  falls = omega (arith, lowered)
+
+  bound_falls : 256 < lower → (z : ℤ) → z ≤ℤ bound_under Least lower → z ≤ℤ bound_under Least word
+  bound_falls over z below = let f : lower ≤ word = falls in omega (arith, ints)
+
+  -- a covered generator's key stays, since its value is the bound of a word that hasn't fallen
+  still_covered : (path : Path) (k : ℕ) → IsCovered n q word keys path k → IsCovered n q lower keys' path k
+  still_covered path k c over below = by notes.is_left
     where
-      more : HasGenerator n q kept path k → HasGenerator n q kept' path k
-      more (p, l, there, same) = (p, l, stays p there, same)
+      high : 256 < word
+      high = let f : lower ≤ word = falls in omega arith
 
-      wider : 256 ≤ lower → value n q (cone_at n q path) k ≤ℤ bound_under Least lower → value n q (cone_at n q path) k ≤ℤ bound_under Least word
-      wider large below = let falls : lower ≤ word = omega (arith, lowered) in omega (arith, ints)
+      has : HasKey n q keys path k
+      has = c high (bound_falls over _ below)
 
-  -- the top's new generators are covered by its own judgement, or their value is over the bound
-  now_covered : (path : Path) (k : ℕ) → (IsCovered m n q word kept path k ⊎ IsNewOnTop n q stack fresh path k) → IsCovered m n q lower kept' path k
-  now_covered path k (inl c) = still_covered path k c
-  now_covered path k (inr t) = by keeps
+      by : IsLeft word lower keys notes.left → HasKey n q keys' path k
+      by (inl (fell, e)) = absurd (
+          let v : value n q (cone_at n q path) k ≡ bound_under Least word = key_attains n q word h.all keys h.noted high path k has in
+          omega (arith, ints, below)
+          )
+      by (inr (stayed, e)) = (has.0, (notes.adds over).kept has.0 (subst (λ (l : List (List ℕ)). Contains l has.0) (sym e) has.1), has.2)
+
+  -- the top's generators are at least the bound
+  not_under : 256 < lower → (k : ℕ) → k < n → IsNotUnder lower (value n q (cone_at n q cone.path) k)
+  not_under over k l = code_not_under n q cone.path lower (omega (arith, limited, (h.plain.cones cone cone_stands).1)) over coded k l
+    where
+      coded : lower ≤ code Least n q cone.path
+      coded = subst (λ (m : Mode). lower ≤ code m n q cone.path)
+          (large_word_is_least m n q word (let f : lower ≤ word = falls in omega arith) h.plain.state.below_start)
+          (next.0.state.below_codes cone.path (inl (j, contains_here j h.all, refl)))
+
+  -- the top's new generators are noted where they attain the bound
+  now_covered : (path : Path) (k : ℕ) → (IsCovered n q word keys path k ⊎ IsNewOnTop n q stack fresh path k) → IsCovered n q lower keys' path k
+  now_covered path k (inl c) over below = still_covered path k c over below
+  now_covered path k (inr t) over below =
+      has_key_same n q keys' path cone.path k t.l same (here (value_at n q cone.path cone at_cone t.l same.range) value_is)
     where
       same : IsSameGenerator n q path k cone.path t.l
       same = subst (λ (c : ShownCone). IsSameGenerator n q path k c.path t.l) (same_top stack t.rest front t.top cone t.on_top popped) t.same
 
-      over : IsUnneededFate m lower cone fresh f → m ≡ Least → 256 ≤ lower → bound_under Least lower <ℤ value n q (cone_at n q path) k
-      over u mode large = subst (λ (z : ℤ). bound_under Least lower <ℤ z)
-          (value_at n q cone.path cone at t.l same.range ∙ same_value n q path cone.path k t.l same)
-          (u.above mode large t.l (rw at.cone.size same.range) t.is_new)
+      value_is : value n q (cone_at n q cone.path) t.l ≡ pos (lower - 256)
+      value_is =
+          let u : IsNotUnder lower (value n q (cone_at n q cone.path) t.l) = not_under over t.l same.range in
+          let e : value n q (cone_at n q cone.path) t.l ≡ value n q (cone_at n q path) k = same_value n q path cone.path k t.l same in
+          omega (arith, ints, below)
 
-      not_both : (a b : ℤ) → a <ℤ b → b ≤ℤ a → ⊥
-      not_both a b lt le = omega (arith, ints)
+      here : shown_gram cone t.l t.l ≡ value n q (cone_at n q cone.path) t.l → value n q (cone_at n q cone.path) t.l ≡ pos (lower - 256)
+          → HasKey n q keys' cone.path t.l
+      here g v = let r = (notes.adds over).added t.l (rw at_cone.cone.size same.range) t.is_new (g ∙ v) in
+          (r.0, r.1, padded_at n q cone.path cone at_cone t.l r.0 same.range r.2)
 
-      by : IsKeptOrNot → IsCovered m n q lower kept' path k
-      by (inl e) mode large below = (j, t.l, subst (λ (l : List Judged). Contains l j) (sym e) (Contains-push kept j), same)
-      by (inr (e, u)) mode large below = absurd (not_both _ _ (over u mode large) below)
+  covered : (p : Judged) (k : ℕ) → ((j ≡ p) ⊎ Contains h.all p) → k < n → IsCovered n q lower keys' p.path k
+  covered p k (inl e) l = subst (λ (r : Judged). IsCovered n q lower keys' r.path k) e (now_covered cone.path k (h.stack_is.waiting cone cone_stands k l))
+  covered p k (inr c) l = still_covered p.path k (h.noted.covered p k c l)
 
-  covered : (p : Judged) (k : ℕ) → ((j ≡ p) ⊎ Contains h.all p) → k < n → IsCovered m n q lower kept' p.path k
-  covered p k (inl e) l = subst (λ (r : Judged). IsCovered m n q lower kept' r.path k) e (now_covered cone.path k (h.stack_is.waiting cone on_top k l))
-  covered p k (inr c) l = still_covered p.path k (h.has.covered p k c l)
+  each : 256 < lower → (x : List ℕ) → Contains keys' x → IsOfJudged n q lower (j ∷ h.all) x
+  each over x there = by ((notes.adds over).only x there)
+    where
+      high : 256 < word
+      high = let f : lower ≤ word = falls in omega arith
+
+      old : Contains notes.left x → IsLeft word lower keys notes.left → IsOfJudged n q lower (j ∷ h.all) x
+      old c (inl (fell, e)) = absurd (nothing_in x (subst (λ (l : List (List ℕ)). Contains l x) e c))
+      old c (inr (stayed, e)) =
+          let (p, k, judged, range, padded, attains) = h.noted.each high x (subst (λ (l : List (List ℕ)). Contains l x) e c) in
+          let same : lower ≡ word = (let f : lower ≤ word = falls in omega arith) in
+          (p, k, contains_there j h.all p judged, range, padded, attains ∙ ap (bound_under Least) (sym same))
+
+      by : (Contains notes.left x ⊎ ((k : ℕ) × (k < cone.size) × (shown_gram cone k k ≡ pos (lower - 256)) × IsKeyOf cone k x))
+          → IsOfJudged n q lower (j ∷ h.all) x
+      by (inl c) = old c notes.is_left
+      by (inr (k, l, e, key)) =
+          let range : k < n = rw (sym at_cone.cone.size) l in
+          let bound : pos (lower - 256) ≡ bound_under Least lower = omega (arith, ints) in
+          let value_is : value n q (cone_at n q cone.path) k ≡ bound_under Least lower = sym (value_at n q cone.path cone at_cone k range) ∙ e ∙ bound in
+          (j, k, contains_here j h.all, range, padded_at n q cone.path cone at_cone k x range key, value_is)
 
   -- a generator of the top is covered
-  handed_on : (path : Path) (k : ℕ) → IsSameGenerator n q path k cone.path k → IsCovered m n q lower kept' path k
-  handed_on path k s mode large below = has_same n q kept' path cone.path k k s
-      (now_covered cone.path k (h.stack_is.waiting cone on_top k s.range) mode large
+  handed_on : (path : Path) (k : ℕ) → IsSameGenerator n q path k cone.path k → IsCovered n q lower keys' path k
+  handed_on path k s over below = has_key_same n q keys' path cone.path k k s
+      (now_covered cone.path k (h.stack_is.waiting cone cone_stands k s.range) over
       (subst (λ (z : ℤ). z ≤ℤ bound_under Least lower) (sym (same_value n q path cone.path k k s)) below))
 
   -- ---- the new stack
-  in_stack : (c : ShownCone) → Contains front c → Contains stack c
-  in_stack c there = subst (λ (s : List ShownCone). Contains s c) (sym popped) (Contains-append_left front (cone ∷ []) c there)
-
   abbrev Waits : NewGenerators → ShownCone → Type 0
-  Waits after c = (k : ℕ) → k < n → IsCovered m n q lower kept' c.path k ⊎ IsNewOnTop n q new after c.path k
+  Waits after c = (k : ℕ) → k < n → IsCovered n q lower keys' c.path k ⊎ IsNewOnTop n q new after c.path k
 
   front_waits : (after : NewGenerators) (c : ShownCone) → Contains front c → Waits after c
-  front_waits after c there k l = inl (now_covered c.path k (h.stack_is.waiting c (in_stack c there) k l))
+  front_waits after c there k l = inl (now_covered c.path k (h.stack_is.waiting c (in_front stack front cone popped c there) k l))
 
-  gone : new ≡ front → IsStack m n q d new lower NoOne kept'
-  gone e = record {
-    cones = λ c there. h.stack_is.cones c (in_stack c (subst (λ (s : List ShownCone). Contains s c) e there));
-    waiting = λ c there. front_waits NoOne c (subst (λ (s : List ShownCone). Contains s c) e there);
-    named = tt;
-  }
+  gone_waits : new ≡ front → IsStack n q new lower NoOne keys'
+  gone_waits e = record { waiting = λ c there. front_waits NoOne c (subst (λ (s : List ShownCone). Contains s c) e there); named = tt }
 
-  module _ (a b w : ℕ) (s : AreChildrenOn cone (a - 1) (b - 1) front new) (ne : length cone.path ≢ d) (some_row : 1 ≤ a)
-      (p : IsPair cone.size (shown_gram cone) (a - 1) (b - 1)) where
-    each_new : (P : ShownCone → Type 0) → ((c : ShownCone) → Contains front c → P c) → P s.second → P s.first
-        → (c : ShownCone) → Contains new c → P c
-    each_new P fronts second first c there =
-        by (Contains-append_cases front (s.second ∷ s.first ∷ []) c (subst (λ (x : List ShownCone). Contains x c) s.stack there))
-      where
-        of_one : ((s.first ≡ c) ⊎ Contains [] c) → P c
-        of_one (inl e) = subst P e first
-        of_one (inr k) = absurd (nothing_in c k)
-
-        of_two : ((s.second ≡ c) ⊎ Contains (s.first ∷ []) c) → P c
-        of_two (inl e) = subst P e second
-        of_two (inr k) = of_one (contains_cons s.first [] c k)
-
-        by : (Contains front c ⊎ Contains (s.second ∷ s.first ∷ []) c) → P c
-        by (inl k) = fronts c k
-        by (inr k) = of_two (contains_cons s.second (s.first ∷ []) c k)
-
-    a_child : (side : Bool) (r : ShownCone) → IsChild cone (a - 1) (b - 1) side r → IsConeAt n q r.path r × (length r.path ≤ d)
-    a_child side r is = (
-      subst (λ (p : Path). IsConeAt n q p r) (sym is.path_is) (child_at_path n q cone.path cone at (a - 1) (b - 1) side r p is),
-      (let l : length r.path ≡ length cone.path + 1 = ap length is.path_is ∙ length-append cone.path (side ∷ []) in
-          let short : length cone.path < d = below_unless_same (length cone.path) d (h.stack_is.cones cone on_top).1 ne in omega arith),
-    )
-
+  module _ (a b : ℕ) (s : AreChildrenOn cone (a - 1) (b - 1) front new) (some_row : 1 ≤ a) (p : IsPair cone.size (shown_gram cone) (a - 1) (b - 1)) where
     pair : pair_of n (gram n q (cone_at n q cone.path)) ≡ Some (a - 1, b - 1)
-    pair = pair_at n q cone.path cone at (a - 1) (b - 1) p
+    pair = pair_at n q cone.path cone at_cone (a - 1) (b - 1) p
 
     row : a - 1 < n
-    row = omega (arith, p.order, p.range, at.cone.size)
+    row = omega (arith, p.order, p.range, at_cone.cone.size)
 
     mediant : (path : Path) (k : ℕ) → IsSameGenerator n q path k s.first.path (a - 1) → IsNewOnTop n q new (One a) path k
     mediant path k same =
@@ -448,7 +541,7 @@ module _ (m : Mode) (n : ℕ) (q : Matrix) (d : ℕ) (stack front new : List Sho
     second_waits : Waits (One a) s.second
     second_waits k l = by (same_or_not k (b - 1))
       where
-        by : ((k ≡ b - 1) ⊎ (k ≢ b - 1)) → IsCovered m n q lower kept' s.second.path k ⊎ IsNewOnTop n q new (One a) s.second.path k
+        by : ((k ≡ b - 1) ⊎ (k ≢ b - 1)) → IsCovered n q lower keys' s.second.path k ⊎ IsNewOnTop n q new (One a) s.second.path k
         by (inl e) = inr (mediant s.second.path k (subst (λ (r : Path). IsSameGenerator n q r k s.first.path (a - 1)) (sym s.is_second.path_is)
             (subst (λ (r : Path). IsSameGenerator n q (cone.path ++ true ∷ []) k r (a - 1)) (sym s.is_first.path_is)
             (second_mediant n q cone.path (a - 1) (b - 1) pair row k e))))
@@ -458,88 +551,40 @@ module _ (m : Mode) (n : ℕ) (q : Matrix) (d : ℕ) (stack front new : List Sho
     first_waits : Waits (One a) s.first
     first_waits k l = by (same_or_not k (a - 1))
       where
-        by : ((k ≡ a - 1) ⊎ (k ≢ a - 1)) → IsCovered m n q lower kept' s.first.path k ⊎ IsNewOnTop n q new (One a) s.first.path k
+        by : ((k ≡ a - 1) ⊎ (k ≢ a - 1)) → IsCovered n q lower keys' s.first.path k ⊎ IsNewOnTop n q new (One a) s.first.path k
         by (inl e) = inr (mediant s.first.path k (subst (λ (i : ℕ). IsSameGenerator n q s.first.path k s.first.path i) e (same_itself n q s.first.path k l)))
         by (inr ne) = inl (handed_on s.first.path k (subst (λ (r : Path). IsSameGenerator n q r k cone.path k) (sym s.is_first.path_is)
             (first_other n q cone.path (a - 1) (b - 1) pair k l ne)))
 
-    split : IsStack m n q d new lower (One a) kept'
-    split = record {
-      cones = each_new (λ (c : ShownCone). IsConeAt n q c.path c × (length c.path ≤ d)) (λ c there. h.stack_is.cones c (in_stack c there))
-          (a_child true s.second s.is_second) (a_child false s.first s.is_first);
-      waiting = each_new (Waits (One a)) (front_waits (One a)) second_waits first_waits;
-      named = (some_row, omega (arith, p.order, p.range, at.cone.size));
+    split_waits : IsStack n q new lower (One a) keys'
+    split_waits = record {
+      waiting = each_new cone (a - 1) (b - 1) front new s (Waits (One a)) (front_waits (One a)) second_waits first_waits;
+      named = (some_row, omega (arith, p.order, p.range, at_cone.cone.size));
     }
 
-  next : (f : Fate) → IsShownFate m cone d lower f → AreStacked cone f front new → IsStack m n q d new lower (new_after f) kept'
-  next (Split a b w) (e, u, ne, (some_row, p), fits) s = split a b w s ne some_row p
-  next (Closed w) g s = gone s
-  next (Low k) g s = gone s
-  next (Dropped w) g s = gone s
-  next (AtLimit w) g s = gone s
-  next (Wide w a) g s = gone s
+  stack_new : (f : Fate) → IsShownFate m cone d lower f → AreStacked cone f front new → IsStack n q new lower (new_after f) keys'
+  stack_new (Split a b w) (e, u, ne, (some_row, p), fits) s = split_waits a b s some_row p
+  stack_new (Closed w) g s = gone_waits s
+  stack_new (Low k) g s = gone_waits s
+  stack_new (Dropped w) g s = gone_waits s
+  stack_new (AtLimit w) g s = gone_waits s
+  stack_new (Wide w a) g s = gone_waits s
 
-  pub search_turns : IsSearching m n q d new lower (new_after f) kept'
-  search_turns = record {
-    all = j ∷ h.all;
-    state = subst (λ (s : List Path). IsKept m n q d (alone s lower (j ∷ h.all))) (paths_new f stacks) turned;
-    has = record {
-      within = within;
-      low = λ p c. low p (contains_cons j h.all p c);
-      ends = λ p c. ends p (contains_cons j h.all p c);
-      covered = λ p k c. covered p k (contains_cons j h.all p c);
-    };
-    stack_is = next f shown stacks;
-  }
-
-  -- ---- it falls
-  pub fewer_left : cones_left d new < cones_left d stack
-  fewer_left = fewer_cones d stack front new cone (h.stack_is.cones cone on_top).1 popped f (λ split. short f shown split) stacks
-    where
-      short : (f : Fate) → IsShownFate m cone d lower f → IsSplit f → length cone.path ≢ d
-      short (Split a b w) (e, u, ne, p, fits) s = ne
-      short (Closed w) g s = absurd s
-      short (Low k) g s = absurd s
-      short (Dropped w) g s = absurd s
-      short (AtLimit w) g s = absurd s
-      short (Wide w a) g s = absurd s
-
-  pub search_step : IsSearching m n q d new lower (new_after f) kept' × (cones_left d new < cones_left d stack)
-  search_step = (search_turns, fewer_left)
-
--- ---- a search that keeps every judgement, the last one first
-pub record IsSearchedPlainly (m : Mode) (n : ℕ) (q : Matrix) (d : ℕ) (stack : List ShownCone) (word : ℕ) (judged : List Judged) : Type 0 where
-  pub fresh : NewGenerators
-  pub kept : List Judged
-  pub search : IsSearching m n q d stack word fresh kept
-  pub all : search.all ≡ judged
-
-pub plain_starts : (m : Mode) (n : ℕ) (q : Matrix) (d : ℕ) (root : ShownCone) → IsConeAt n q [] root
-    → IsSearchedPlainly m n q d (root ∷ []) (start_word m n q) []
-unfolding search_starts
-plain_starts m n q d root at = record { fresh = Each; kept = []; search = search_starts m n q d root at; all = refl }
-
-pub plain_ends : (m : Mode) (n : ℕ) (q : Matrix) (d : ℕ) (stack : List ShownCone) (word : ℕ) (judged : List Judged) → stack ≡ []
-    → IsSearchedPlainly m n q d stack word judged → IsFair m n q d judged word
-unfolding search_ends
-plain_ends m n q d stack word judged e h =
-    subst (λ (all : List Judged). IsFair m n q d all word) h.all (search_ends m n q d stack word h.fresh h.kept e h.search).fair
-
-module _ (m : Mode) (n : ℕ) (q : Matrix) (d : ℕ) (stack front new : List ShownCone) (cone : ShownCone) (word : ℕ) (judged : List Judged) (j : Judged)
-    (some : 1 ≤ n) (h : IsSearchedPlainly m n q d stack word judged)
-    (popped : IsOnTop cone front stack) (is : IsJudgementOf m cone d (min word (shown_code m cone)) j) (stacks : AreStacked cone j.fate front new) where
-  j_is : (record { path = cone.path; fate = j.fate; least = shown_least cone }) ≡ j
-  j_is = ap₂ (λ (p : Path) (z : ℤ). record { path = p; fate = j.fate; least = z }) (sym is.path_is) (sym is.least_is)
-
-  pub plain_step : IsSearchedPlainly m n q d new (min word (shown_code m cone)) (j ∷ judged) × (cones_left d new < cones_left d stack)
-  unfolding search_step search_turns
-  plain_step =
-      let more : List Judged = h.kept ++ j ∷ [] in
-      let step = search_step m n q d stack front new cone word (min word (shown_code m cone)) h.fresh j.fate h.kept more some h.search popped refl is.fate
-      stacks (inl (j, is, refl)) in (
-        record { fresh = new_after j.fate; kept = more; search = step.0; all = ap₂ (λ (k : Judged) (all : List Judged). k ∷ all) j_is h.all },
-        step.1,
-      )
+  pub search_step : IsSearching m n q d new lower (new_after f) kept' keys' × (cones_left d new < cones_left d stack)
+  search_step = (
+    record {
+      all = j ∷ h.all;
+      plain = next.0;
+      has = record {
+        within = within;
+        low = λ p c. low p (contains_cons j h.all p c);
+        ends = λ p c. ends p (contains_cons j h.all p c);
+      };
+      noted = record { each = each; covered = λ p k c. covered p k (contains_cons j h.all p c) };
+      stack_is = stack_new f shown stacks;
+    },
+    next.1,
+  )
 
 pub no_items : (stack : List ShownCone) → length stack ≡ 0 → stack ≡ []
 no_items [] e = refl

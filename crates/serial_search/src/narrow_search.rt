@@ -9,8 +9,9 @@ ghost use Rattle.serial_search.specs.Turns.{MayTurn, IsTurnOf, IsRootAlone};
 
 use crate::search::Judgements;
 use cone_arena::NarrowArena;
-use search_core::{Fate, NewGenerators, keep_fate, lowering_fate, start_word};
+use search_core::{Fate, NewGenerators, keep_fate, lowering_fate, note_new, start_word};
 use std::alloc::{AllocError, Global};
+use std::collections::BTreeSet;
 use symmetric_matrix::SymInt;
 use unimodular_cone::{Mode, narrow_root};
 
@@ -46,12 +47,15 @@ fn search_over(
 {
     let _n = q.n();
     let mut judged = Vec::new(alloc);
+    let mut attaining = BTreeSet::new(alloc);
     let mut word = start_word(mode, q);
     let mut fresh = NewGenerators::Each;
     while arena.len() > 0 {
         let cone = arena.top();
+        let before = word;
         let fate = lowering_fate(mode, cone, limit, fresh, &mut word);
-        keep_fate(&mut judged, mode, cone, limit, fresh, &fate, word)?;
+        keep_fate(&mut judged, mode, cone, limit, &fate, word)?;
+        note_new(&mut attaining, cone, fresh, before, word)?;
         if !turn(arena, &fate) {
             return Ok(None);
         }
@@ -59,6 +63,7 @@ fn search_over(
     }
     Ok(Some(Judgements {
         judged,
+        attaining,
         final_word: word,
     }))
 }

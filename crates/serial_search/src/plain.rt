@@ -6,13 +6,20 @@ ghost use Rattle.unimodular_cone.specs.Answer.{BoundFits};
 ghost use Rattle.search_core.specs.Fair.{IsFair};
 ghost use Rattle.serial_search.specs.Turns.{IsRootAlone};
 
-use crate::search::{Judgements, turn};
+use crate::search::turn;
 use crate::searcher::bound_wide;
 use cone_arena::ConeArena;
-use search_core::{Least, Sign, code, judgement, settle_least, settle_sign, start_word};
+use search_core::{Judged, Least, Sign, code, judgement, settle_least, settle_sign, start_word};
 use std::alloc::{AllocError, Global};
 use symmetric_matrix::SymInt;
 use unimodular_cone::Mode;
+
+/// Every judgement, and the word after all of them.
+#[derive(Drop)]
+struct EveryJudgement {
+    judged: Vec<Judged>,
+    final_word: u64,
+}
 
 /// Every judgement of a search from the root of a matrix, which stands alone in an arena that was made for the limit, the last
 /// one first, and the final word.
@@ -22,7 +29,7 @@ fn every_judgement(
     q: &SymInt,
     limit: u8,
     arena: &mut ConeArena,
-) -> Result<Judgements, AllocError>
+) -> Result<EveryJudgement, AllocError>
     requires limited { limit ≤ 200 }
     requires bound_fits { BoundFits mode q.now.size (entry q.now) }
     requires room { limit ≤ arena.old.depth }
@@ -41,7 +48,7 @@ fn every_judgement(
         judged.insert(0, j)?;
         turn(arena, &fate);
     }
-    Ok(Judgements {
+    Ok(EveryJudgement {
         judged,
         final_word: word,
     })

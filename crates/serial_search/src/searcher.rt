@@ -6,9 +6,9 @@ ghost use Rattle.unimodular_cone.specs.Answer.{BoundFits, IsLeastDiagonal};
 ghost use Rattle.search_core.specs.Answers.{IsLeastAnswer, IsSignAnswer};
 
 use crate::narrow_search::search_narrow;
-use crate::search::search;
+use crate::search::{search, settled_least, settled_sign};
 use cone_arena::ConeArena;
-use search_core::{Least, Searcher, Sign, least_diagonal, settle_least_part, settle_sign_part};
+use search_core::{Least, Searcher, Sign, least_diagonal};
 use std::alloc::Global;
 use symmetric_matrix::SymInt;
 use unimodular_cone::Mode;
@@ -62,7 +62,7 @@ fn least_within(alloc: Global, q: &SymInt, limit: u8) -> Least
     match search_narrow(alloc, Mode::Least, q, limit) {
         Err(_) => Least::OutOfMemory,
         Ok(None) => least_wide(alloc, q, limit),
-        Ok(Some(found)) => settle_least_part(alloc, q, limit, &found.judged, found.final_word),
+        Ok(Some(found)) => settled_least(alloc, q, limit, found),
     }
 }
 
@@ -90,7 +90,7 @@ fn least_over(alloc: Global, q: &SymInt, limit: u8, mut arena: ConeArena) -> Lea
     match arena.push_root(q) {
         Err(at) => Least::Wide { at },
         Ok(()) => match search(alloc, Mode::Least, q, limit, &mut arena) {
-            Ok(found) => settle_least_part(alloc, q, limit, &found.judged, found.final_word),
+            Ok(found) => settled_least(alloc, q, limit, found),
             Err(_) => Least::OutOfMemory,
         },
     }
@@ -105,7 +105,7 @@ fn sign_within(alloc: Global, q: &SymInt, limit: u8) -> Sign
     match search_narrow(alloc, Mode::Sign, q, limit) {
         Err(_) => Sign::OutOfMemory,
         Ok(None) => sign_wide(alloc, q, limit),
-        Ok(Some(found)) => settle_sign_part(alloc, q, limit, &found.judged, found.final_word),
+        Ok(Some(found)) => settled_sign(alloc, q, limit, &found),
     }
 }
 
@@ -131,7 +131,7 @@ fn sign_over(alloc: Global, q: &SymInt, limit: u8, mut arena: ConeArena) -> Sign
     match arena.push_root(q) {
         Err(at) => Sign::Wide { at },
         Ok(()) => match search(alloc, Mode::Sign, q, limit, &mut arena) {
-            Ok(found) => settle_sign_part(alloc, q, limit, &found.judged, found.final_word),
+            Ok(found) => settled_sign(alloc, q, limit, &found),
             Err(_) => Sign::OutOfMemory,
         },
     }

@@ -4,16 +4,17 @@ ghost use Rattle.std.specs.Prelude.{◌≡◌, ◌≤◌, ◌<◌, [], length, I
 ghost use Rattle.symmetric_matrix.specs.Symmetric.{entry};
 ghost use Rattle.unimodular_cone.specs.Answer.{BoundFits};
 ghost use Rattle.search_core.specs.Answers.{IsLeastAnswer, IsSignAnswer};
-ghost use Rattle.search_core.specs.Fair.{IsFairPart};
+ghost use Rattle.serial_search.specs.Found.{IsFairSearch};
 ghost use Rattle.serial_search.specs.Turns.{IsRootAlone};
 
-use crate::search::{Judgements, turn};
+use crate::search::{Judgements, settled_least, settled_sign, turn};
 use cone_arena::ConeArena;
 use search_core::{
-    Least, NewGenerators, Sign, keep_fate, lowering_fate, settle_least_part, settle_sign_part,
-    start_word,
+    Least, NewGenerators, Sign, keep_fate, lowering_fate, note_new, settle_least_noted,
+    settle_sign_part, start_word,
 };
 use std::alloc::{AllocError, Global};
+use std::collections::BTreeSet;
 use symmetric_matrix::SymInt;
 use unimodular_cone::Mode;
 
@@ -32,22 +33,26 @@ fn search_in_turns(
     requires room { limit ≤ arena.old.depth }
     requires root { IsRootAlone q.now arena.old.cones }
     ensures { IfOk result (λ found. IfSome found
-        (λ r. IsFairPart mode q.now.size (entry q.now) limit r.judged.items r.final_word)) }
+        (IsFairSearch mode q.now limit)) }
 {
     let _n = q.n();
     let mut judged = Vec::new(alloc);
+    let mut attaining = BTreeSet::new(alloc);
     let mut word = start_word(mode, q);
     let mut fresh = NewGenerators::Each;
     for _ in 0..turns {
         if arena.len() == 0 {
             return Ok(Some(Judgements {
                 judged,
+                attaining,
                 final_word: word,
             }));
         }
         let cone = arena.top();
+        let before = word;
         let fate = lowering_fate(mode, &cone, limit, fresh, &mut word);
-        keep_fate(&mut judged, mode, &cone, limit, fresh, &fate, word)?;
+        keep_fate(&mut judged, mode, &cone, limit, &fate, word)?;
+        note_new(&mut attaining, &cone, fresh, before, word)?;
         turn(arena, &fate);
         fresh = NewGenerators::after(&fate);
     }
@@ -85,13 +90,7 @@ fn least_over(
     match arena.push_root(q) {
         Err(at) => Some(Least::Wide { at }),
         Ok(()) => match search_in_turns(alloc, Mode::Least, q, limit, &mut arena, turns) {
-            Ok(Some(found)) => Some(settle_least_part(
-                alloc,
-                q,
-                limit,
-                &found.judged,
-                found.final_word,
-            )),
+            Ok(Some(found)) => Some(settled_least(alloc, q, limit, found)),
             Ok(None) => None,
             Err(_) => Some(Least::OutOfMemory),
         },
@@ -120,13 +119,7 @@ fn sign_over(alloc: Global, q: &SymInt, limit: u8, mut arena: ConeArena, turns: 
     match arena.push_root(q) {
         Err(at) => Some(Sign::Wide { at }),
         Ok(()) => match search_in_turns(alloc, Mode::Sign, q, limit, &mut arena, turns) {
-            Ok(Some(found)) => Some(settle_sign_part(
-                alloc,
-                q,
-                limit,
-                &found.judged,
-                found.final_word,
-            )),
+            Ok(Some(found)) => Some(settled_sign(alloc, q, limit, &found)),
             Ok(None) => None,
             Err(_) => Some(Sign::OutOfMemory),
         },

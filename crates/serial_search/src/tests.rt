@@ -137,28 +137,29 @@ fn least_values(rt: HostRuntime) -> Result<(), Fail> {
     Ok(())
 }
 
-/// How many judgements a search for the least value over narrow cones keeps. None where there is no such search.
-fn kept_judgements(alloc: Global, q: &SymInt, limit: u8) -> Result<Option<usize>, Fail>
+/// How many judgements a search for the least value over narrow cones keeps, and how many vectors it has noted in the end. None
+/// where there is no such search.
+fn kept_and_noted(alloc: Global, q: &SymInt, limit: u8) -> Result<Option<(usize, usize)>, Fail>
     requires { limit ≤ 200 }
 {
     match bound_wide(q) {
         Some(_) => Ok(None),
         None => match search_narrow(alloc, Mode::Least, q, limit)? {
-            Some(found) => Ok(Some(found.judged.len())),
+            Some(found) => Ok(Some((found.judged.len(), found.attaining.len()))),
             None => Ok(None),
         },
     }
 }
 
-// Seven cones are judged, and the least value of each is at most the bound at its turn. The root is kept, and the three children
-// 0, in which (1, 1), (2, 1) and (3, 2) are new.
+// Seven cones are judged, none of them low or an end. (1, 1) is noted at its turn, and forgotten for (2, 1) and (3, 2), which are
+// new in the children 0 below.
 #[test]
 fn mediants_attain_the_minimum(rt: HostRuntime) -> Result<(), Fail> {
     let alloc = rt.alloc();
     let mut searcher = SerialSearcher::new(alloc);
     let q = two(alloc, 5, -8, 13)?;
     assert_found(&rt, &searcher.least(&q, 60), 1, &[2, 1, 3, 2]);
-    assert_eq!(&rt; kept_judgements(alloc, &q, 60)?, Some(4));
+    assert_eq!(&rt; kept_and_noted(alloc, &q, 60)?, Some((0, 2)));
     Ok(())
 }
 

@@ -1,11 +1,10 @@
-use Rattle.std.specs.Prelude.{◌≡◌, ◌≤◌, ◌<◌, ◌-◌, ◌+◌, ◌^◌, ◌⊎◌, ℕ, suc, ℤ, FitsSigned}
+use Rattle.std.specs.Prelude.{◌≡◌, ◌<◌, ◌-◌, ◌⊎◌, ℕ, suc, ℤ, FitsSigned}
 use Rattle.std.specs.Int.{w128}
 use Rattle.std.proofs.Common.{arith, sym, ◌∙◌, ap, subst, inl, inr}
 use Rattle.std.proofs.lemmas.Int.{ints, to_z-of_z}
 use Rattle.unimodular_cone.specs.declared.Mode.{Mode}
-use Rattle.unimodular_cone.specs.declared.Mode.TheVariants.{Least}
 use Rattle.unimodular_cone.specs.Shown.{ShownCone, shown_gram}
-use Rattle.search_core.specs.Kept.{NewGenerators, NamesNew, IsNew, One, NoOne}
+use Rattle.search_core.specs.Noting.{NewGenerators, NamesNew, IsNew, One, NoOne}
 use Rattle.search_core.specs.Lowering.{IsNotUnder, HasOthersOver, IsOver, ServesAsLeast}
 use Rattle.search_core.proofs.Deciding.{over_is, serves, serves_least}
 use Rattle.search_core.proofs.lowering.deciding_value.Goals as goal

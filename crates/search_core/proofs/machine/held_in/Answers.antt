@@ -1,6 +1,5 @@
-use Rattle.std.specs.Prelude.{◌≡◌, ◌<◌, ◌≤◌, length}
+use Rattle.std.specs.Prelude.{◌<◌, length}
 use Rattle.std.proofs.Common.{arith}
-use Rattle.search_core.specs.Machine.{held}
 use Rattle.search_core.proofs.Steps.{in_hands_more}
 use Rattle.search_core.proofs.machine.held_in.Goals as goal
 

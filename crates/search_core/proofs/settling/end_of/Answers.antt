@@ -4,7 +4,7 @@ use Rattle.search_core.proofs.settling.end_of.Goals.{After-n-n}
 use Rattle.search_core.proofs.settling.end_of.Goals as goal
 
 here : (c : After-n-n) → IsSettled c.args.mode c.args.q.now.size (entry c.args.q.now) c.args.limit c.args.judged.now c.args.final_word
-here c = settled c.args.q.now c.requires.part c.requires.limited c.n-n.ensures.matrix.positive c.requires.bound_fits c.requires.fits
+here c = settled c.args.q.now c.requires.ends c.requires.limited c.n-n.ensures.matrix.positive c.requires.bound_fits c.requires.fits
 
 pub first_open-requires-clause-in_tree : goal.first_open-requires-clause-in_tree
 first_open-requires-clause-in_tree c = part_in_tree _ _ _ _ _ _ (here (goal.at.first_open-requires-clause-in_tree c).After-n-n)

@@ -7,12 +7,12 @@ use Rattle.unimodular_cone.specs.Answer.{SearchAnswer, IsSearchAnswer}
 use Rattle.symmetric_matrix.specs.Symmetric.{entry}
 use Rattle.search_core.specs.Fair.{bound_under}
 use Rattle.search_core.specs.Attaining.{ListsGenerators}
-use Rattle.search_core.proofs.Parts.{IsSettled, settled, part_in_tree, found_answer}
+use Rattle.search_core.proofs.Parts.{IsSettled, settled, ends_of, part_in_tree, found_answer, of_the_whole}
 use Rattle.search_core.proofs.settling.found.Goals.{After-n-n}
 use Rattle.search_core.proofs.settling.found.Goals as goal
 
-here : (c : After-n-n) → IsSettled Mode.Least c.args.q.now.size (entry c.args.q.now) c.args.limit c.args.judged.now c.args.final_word
-here c = settled c.args.q.now c.requires.part c.requires.limited c.n-n.ensures.matrix.positive c.requires.bound_fits c.requires.fits
+abbrev here : (c : After-n-n) → IsSettled Mode.Least c.args.q.now.size (entry c.args.q.now) c.args.limit c.args.judged.now c.args.final_word
+here c = settled c.args.q.now (ends_of c.requires.part) c.requires.limited c.n-n.ensures.matrix.positive c.requires.bound_fits c.requires.fits
 
 pub attaining-requires-clause-in_tree : goal.attaining-requires-clause-in_tree
 attaining-requires-clause-in_tree c = part_in_tree _ _ _ _ _ _ (here (goal.at.attaining-requires-clause-in_tree c).After-n-n)
@@ -24,5 +24,6 @@ returns-in-Ok c =
     ∙ c.bound_under-minimum.ensures in
     subst (λ (z : ℤ). IsSearchAnswer Mode.Least c.args.q.now.size (entry c.args.q.now) c.args.limit (SearchAnswer.Found z c.in-Ok.vectors)) (sym is)
     (found_answer (here (goal.at.returns-in-Ok c).After-n-n) c.requires.closed.0 c.requires.closed.1 c.in-Ok.vectors
+    (of_the_whole (here (goal.at.returns-in-Ok c).After-n-n) c.requires.closed.0 c.requires.part.relevant c.in-Ok.vectors
     (subst (λ (z : ℤ). ListsGenerators c.args.q.now.size (entry c.args.q.now) c.args.judged.now z c.in-Ok.vectors) c.bound_under-minimum.ensures
-    c.in-Ok.ensures))
+    c.in-Ok.ensures)))

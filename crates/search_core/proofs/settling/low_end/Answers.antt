@@ -8,7 +8,7 @@ use Rattle.search_core.proofs.settling.low_end.Goals.{After-n-n}
 use Rattle.search_core.proofs.settling.low_end.Goals as goal
 
 here : (c : After-n-n) → IsSettled c.args.mode c.args.q.now.size (entry c.args.q.now) c.args.limit c.args.judged.now c.args.depth
-here c = settled c.args.q.now c.requires.part c.requires.limited c.n-n.ensures.matrix.positive c.requires.bound_fits c.requires.fits
+here c = settled c.args.q.now c.requires.ends c.requires.limited c.n-n.ensures.matrix.positive c.requires.bound_fits c.requires.fits
 
 pub unreachable-requires : goal.unreachable-requires
 unreachable-requires c = some_low_part _ _ _ _ _ _ (here (goal.at.unreachable-requires c).After-n-n) (omega arith) c.in_default.ensures

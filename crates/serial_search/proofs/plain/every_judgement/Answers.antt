@@ -4,7 +4,7 @@ use Rattle.symmetric_matrix.specs.Symmetric.{entry}
 use Rattle.search_core.specs.Judging.{shown_code, IsJudgementOf}
 use Rattle.serial_search.specs.Turns.{AreStacked}
 use Rattle.serial_search.proofs.Tops.{AreDeep, may_turn, deep_turned}
-use Rattle.serial_search.proofs.Stacks.{cones_left, IsSearchedPlainly, no_items, plain_starts, plain_step, plain_ends, top_within}
+use Rattle.serial_search.proofs.Stacks.{cones_left, IsSearchedPlainly, no_items, plain_starts, plain_step, plain_ends, plain_within}
 use Rattle.serial_search.proofs.plain.every_judgement.Goals as goal
 
 pub loop-mode-init : goal.loop-mode-init
@@ -17,13 +17,13 @@ loop-mode-init c = record {
 
 pub judgement-j-requires-clause-within : goal.judgement-j-requires-clause-within
 judgement-j-requires-clause-within c =
-    top_within _ _ _ _ _ c.top-cone.ensures.top.0 _ _ _ _ c.loop-mode.invariant.searching.search c.top-cone.ensures.top.1
+    plain_within c.loop-mode.invariant.searching c.top-cone.ensures.top.0 _ c.top-cone.ensures.top.1
 
 pub turn-requires-clause-may : goal.turn-requires-clause-may
 turn-requires-clause-may c =
     may_turn c.args.mode c.loop-mode.arena c.top-cone.ensures.top.0 c.top-cone.result.cone.now c.args.limit c.min-lower.result c.judgement-j.result.fate
     c.top-cone.ensures.top.1 c.top-cone.ensures.size c.loop-mode.invariant.deep c.loop-mode.invariant.room
-    (top_within _ _ _ _ _ c.top-cone.ensures.top.0 _ _ _ _ c.loop-mode.invariant.searching.search c.top-cone.ensures.top.1)
+    (plain_within c.loop-mode.invariant.searching c.top-cone.ensures.top.0 _ c.top-cone.ensures.top.1)
     c.judgement-j.ensures.fate
 
 lowered : (c : goal.After-turn) → c.min-lower.result ≡ min c.loop-mode.word (shown_code c.args.mode c.top-cone.result.cone.now)

@@ -4,8 +4,8 @@ use Rattle.unimodular_cone.proofs.ShownAt.{root_fits}
 use Rattle.serial_search.proofs.Holds.{wide_at_root}
 use Rattle.serial_search.proofs.searcher.least_over.Goals as goal
 
-pub settle_least_part-requires-clause-fits : goal.settle_least_part-requires-clause-fits
-settle_least_part-requires-clause-fits c =
+pub settled_least-requires-clause-fits : goal.settled_least-requires-clause-fits
+settled_least-requires-clause-fits c =
     root_fits c.args.q.now.size (entry c.args.q.now) c.in-Ok.ensures.made.root c.in-Ok.ensures.made.is_root c.in-Ok.ensures.made.fits
 
 pub returns-in-Err : goal.returns-in-Err

@@ -5,7 +5,10 @@ use Rattle.serial_search.proofs.short.search_in_turns.Goals as goal
 
 pub loop-init : goal.loop-init
 loop-init c =
-    record { loop = rw (c.start_word-word.ensures, c.new-judged.ensures.items) (loop_starts _ c.args.q.now _ c.args.arena.now c.requires.root c.requires.room) }
+    record {
+      loop = rw (c.start_word-word.ensures, c.new-judged.ensures.items, c.new-attaining.ensures.empty)
+          (loop_starts _ c.args.q.now _ c.args.arena.now c.requires.root c.requires.room);
+    }
 
 pub lowering_fate-fate-requires-clause-within : goal.lowering_fate-fate-requires-clause-within
 lowering_fate-fate-requires-clause-within c = loop_within c.loop.invariant.loop c.top-cone.ensures.top.0 _ c.top-cone.ensures.top.1
@@ -14,7 +17,7 @@ pub lowering_fate-fate-requires-clause-named : goal.lowering_fate-fate-requires-
 lowering_fate-fate-requires-clause-named c = loop_named c.loop.invariant.loop c.top-cone.ensures.top.0 _ c.top-cone.ensures.top.1
 
 pub lowering_fate-fate-requires-clause-others : goal.lowering_fate-fate-requires-clause-others
-lowering_fate-fate-requires-clause-others c = loop_others c.loop.invariant.loop c.top-cone.ensures.top.0 _ c.top-cone.ensures.top.1 c.requires.limited
+lowering_fate-fate-requires-clause-others c = loop_others c.loop.invariant.loop c.top-cone.ensures.top.0 _ c.top-cone.ensures.top.1
 
 pub keep_fate-requires-clause-below_code : goal.keep_fate-requires-clause-below_code
 keep_fate-requires-clause-below_code c = omega (arith, c.lowering_fate-fate.ensures.word)
@@ -22,8 +25,8 @@ keep_fate-requires-clause-below_code c = omega (arith, c.lowering_fate-fate.ensu
 pub keep_fate-requires-clause-within : goal.keep_fate-requires-clause-within
 keep_fate-requires-clause-within c = loop_within c.loop.invariant.loop c.top-cone.ensures.top.0 _ c.top-cone.ensures.top.1
 
-pub keep_fate-requires-clause-named : goal.keep_fate-requires-clause-named
-keep_fate-requires-clause-named c = loop_named c.loop.invariant.loop c.top-cone.ensures.top.0 _ c.top-cone.ensures.top.1
+pub note_new-requires : goal.note_new-requires
+note_new-requires c = loop_named c.loop.invariant.loop c.top-cone.ensures.top.0 _ c.top-cone.ensures.top.1
 
 pub turn-requires-clause-may : goal.turn-requires-clause-may
 turn-requires-clause-may c = loop_may_turn c.loop.invariant.loop c.top-cone.ensures.top.0 _ c.top-cone.ensures.top.1 _ _ c.top-cone.ensures.size
@@ -32,8 +35,8 @@ turn-requires-clause-may c = loop_may_turn c.loop.invariant.loop c.top-cone.ensu
 pub loop-preserved : goal.loop-preserved
 loop-preserved c = record {
   loop = rw c.after-fresh.ensures
-      (loop_turns c.loop.invariant.loop c.top-cone.ensures.top.0 _ c.top-cone.ensures.top.1 _ _ _ _ c.n-n.ensures.matrix.positive
-      c.lowering_fate-fate.ensures.word c.lowering_fate-fate.ensures.fate c.turn.ensures c.in_ok-keep_fate.ensures.kept).0;
+      (loop_turns c.loop.invariant.loop c.top-cone.ensures.top.0 _ c.top-cone.ensures.top.1 _ _ _ _ _ c.n-n.ensures.matrix.positive c.requires.limited
+      c.lowering_fate-fate.ensures.word c.lowering_fate-fate.ensures.fate c.turn.ensures c.in_ok-keep_fate.ensures.kept c.in_ok-note_new.ensures).0;
 }
 
 pub returns-then-len-eq0 : goal.returns-then-len-eq0

@@ -8,7 +8,7 @@ use Rattle.search_core.proofs.Mirrors.{entry_symmetric}
 use Rattle.serial_search.specs.Turns.{IsOnTop}
 use Rattle.serial_search.proofs.Tops.{may_turn}
 use Rattle.serial_search.proofs.WalkArenas.{walk_arena_starts, walk_arena_turns, walk_arena_empties}
-use Rattle.serial_search.proofs.Stacks.{no_items, top_within}
+use Rattle.serial_search.proofs.Stacks.{no_items, plain_within}
 use Rattle.serial_search.proofs.Lows.{FallsOn, falls_from_root, falls_on, falls_to_low, falls_to_word}
 use Rattle.serial_search.proofs.values.first_walk.Goals as goal
 
@@ -21,7 +21,7 @@ loop-arena-init c = record {
 
 pub lowering_fate-fate-requires-clause-within : goal.lowering_fate-fate-requires-clause-within
 lowering_fate-fate-requires-clause-within c =
-    top_within _ _ _ _ _ c.top-cone.ensures.top.0 _ _ _ _ c.loop-arena.invariant.falling.search.search c.top-cone.ensures.top.1
+    plain_within c.loop-arena.invariant.falling.search c.top-cone.ensures.top.0 _ c.top-cone.ensures.top.1
 
 pub turn-requires-clause-may : goal.turn-requires-clause-may
 turn-requires-clause-may c =
@@ -29,7 +29,7 @@ turn-requires-clause-may c =
     let top : IsOnTop c.top-cone.result.cone.now rest c.loop-arena.arena.cones = c.top-cone.ensures.top.1 in
     may_turn Mode.Least c.loop-arena.arena rest c.top-cone.result.cone.now c.args.limit c.lowering_fate-fate.new.word c.lowering_fate-fate.result top
     c.top-cone.ensures.size c.loop-arena.invariant.arena.deep c.loop-arena.invariant.arena.room
-    (top_within _ _ _ _ _ rest _ _ _ _ c.loop-arena.invariant.falling.search.search top)
+    (plain_within c.loop-arena.invariant.falling.search rest _ top)
     c.lowering_fate-fate.ensures.fate
 
 turned : (c : goal.After-turn) → FallsOn c.args.q.now.size (entry c.args.q.now) c.args.limit c.loop-arena.arena.cones c.turn.new.arena.cones

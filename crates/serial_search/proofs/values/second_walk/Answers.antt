@@ -14,7 +14,7 @@ use Rattle.serial_search.specs.Turns.{IsOnTop, AreStacked}
 use Rattle.serial_search.proofs.Tops.{may_turn, top_there}
 use Rattle.serial_search.proofs.WalkArenas.{walk_arena_starts, walk_arena_turns}
 use Rattle.serial_search.proofs.Stacks.{no_items}
-use Rattle.serial_search.proofs.Digits.{IsOnTheWay, IsWalkTurn, walk_from_root, word_below_code, depth_is_due, wide_is_due, walks_on, walk_shortens, none_left}
+use Rattle.serial_search.proofs.Digits.{IsOnTheWay, walk_from_root, word_below_code, depth_is_due, wide_is_due, walks_on, walk_shortens, none_left}
 use Rattle.serial_search.proofs.values.second_walk.Goals as goal
 
 pub loop-arena-init : goal.loop-arena-init
