@@ -14,8 +14,6 @@ mod slacks;
 mod small;
 mod small_node;
 mod terms;
-#[cfg(test)]
-mod tests;
 mod tree;
 
 pub use checked::Checked;

@@ -15,7 +15,7 @@ use prog.Wp.{WpFn, Closed}
 use prog.Model.{Model}
 use types.Logic.{Logic}
 use contract.Running.{Running, MachineTables, tables}
-use types.Kit.{Item, Goal, Seq, ‵, ◌⊛◌, ◌$◌, move, split, fsplit, fsplit3, feq_l, flt_l}
+use types.Kit.{Goal, Seq, ‵, ◌⊛◌, ◌$◌, move, split, fsplit, fsplit3, feq_l, flt_l}
 use types.SemTy.{Body as Borrowed}
 use denote.Exit.{Kept, no}
 use denote.RattleType.{RattleType, owns}

@@ -1,8 +1,9 @@
 //! A list of cones in one block of memory.
 
-ghost use Rattle.std.specs.Prelude.{◌≡◌, ◌≤◌, ◌<◌, ◌+◌, ◌-◌, [], length, IfOk, IfErr};
+ghost use Rattle.std.specs.Prelude.{◌≡◌, ◌≤◌, ◌<◌, ◌+◌, ◌-◌, [], length, IfOk, IfErr, IfSome};
 ghost use Rattle.symmetric_matrix.specs.Symmetric.{entry};
-ghost use Rattle.unimodular_cone.specs.Shown.{IsFirstWideAt};
+ghost use Rattle.unimodular_cone.specs.Narrow.{HasShallowCoordinates};
+ghost use Rattle.unimodular_cone.specs.Shown.{ShownCone, IsFirstWideAt};
 ghost use Rattle.cone_arena.specs.Arena.{IsArena, MaySplit, TopFits, IsTopReplaced, IsWideTop, IsTopOf, HasRoot, IsDropped};
 
 use crate::rows::Rows;
@@ -10,7 +11,7 @@ use crate::view::ConeView;
 use std::alloc::{AllocError, Global};
 use std::marker::Model;
 use symmetric_matrix::SymInt;
-use unimodular_cone::{ConeFail, WideAt, children_fit, root};
+use unimodular_cone::{ConeFail, NarrowCone, WideAt, children_fit, root};
 
 /// Cones of n generators each, one above the other, in one block of memory with room for two more than a depth.
 ///
@@ -101,6 +102,17 @@ impl ConeArena {
     {
         self.rows.split(self.len - 1, i, j);
         self.len += 1;
+    }
+
+    /// The top as a narrow cone, if its coordinates are at most two to its depth, as those of each cone of a tree are. None where a
+    /// Gram entry of it is not narrow.
+    pub fn narrow_top(&self) -> Option<NarrowCone>
+        requires some { 0 < length self.now.cones }
+        requires shallow { (c : ShownCone) → IsTopOf self.now c → HasShallowCoordinates c }
+        ensures top { IfSome result (IsTopOf self.now) }
+        ensures size { IfSome result (λ c. c.size ≡ self.now.size) }
+    {
+        NarrowCone::of(self.rows.get(self.len - 1))
     }
 
     /// Takes the top away.

@@ -33,22 +33,34 @@ impl Model for NarrowArena {
 }
 
 impl NarrowArena {
-    /// A cone alone, with room for depth + 2.
-    pub fn with_root(alloc: Global, depth: u8, root: NarrowCone) -> Result<NarrowArena, AllocError>
+    /// An empty list, with room for depth + 2 cones of n generators.
+    pub fn with_cones(alloc: Global, n: u8, depth: u8) -> Result<NarrowArena, AllocError>
+        requires some { 1 ≤ n }
+        requires few { n ≤ 8 }
         requires shallow { depth ≤ 200 }
-        ensures size { IfOk result (λ a. a.size ≡ root.size) }
+        ensures size { IfOk result (λ a. a.size ≡ n) }
         ensures depth { IfOk result (λ a. a.depth ≡ depth) }
-        ensures alone { IfOk result (λ a. a.cones ≡ root ∷ []) }
+        ensures empty { IfOk result (λ a. a.cones ≡ []) }
     {
-        let mut rows = Vec::with_capacity(alloc, usize::from(depth) + 2)?;
-        let n = root.n();
-        rows.push_reserved(root);
+        let rows = Vec::with_capacity(alloc, usize::from(depth) + 2)?;
         Ok(NarrowArena {
             n,
             depth,
-            len: 1,
+            len: 0,
             rows,
         })
+    }
+
+    /// Puts a cone into the empty list.
+    pub fn put_alone(&mut self, cone: NarrowCone)
+        requires empty { self.old.cones ≡ [] }
+        requires size { cone.size ≡ self.old.size }
+        ensures size { self.new.size ≡ self.old.size }
+        ensures depth { self.new.depth ≡ self.old.depth }
+        ensures alone { self.new.cones ≡ cone ∷ [] }
+    {
+        put_first(&mut self.rows, cone);
+        self.len = 1;
     }
 
     /// Replaces the top, whose children fit, by its child 1 on the sides of the generators i and j, which count from 1, and
@@ -93,6 +105,19 @@ impl NarrowArena {
     {
         &self.rows[self.len - 1]
     }
+}
+
+/// Puts a cone into the first row, whatever is in it.
+fn put_first(rows: &mut Vec<NarrowCone>, cone: NarrowCone)
+    requires { 0 < vec_capacity rows.old }
+    ensures first { take 1 rows.new.items ≡ cone ∷ [] }
+    ensures capacity { vec_capacity rows.new ≡ vec_capacity rows.old }
+{
+    if rows.len() == 0 {
+        rows.push_reserved(cone);
+        return;
+    }
+    rows[0] = cone;
 }
 
 /// Splits the cone of a row, where both children are narrow: it becomes its child 1, and the row above, whatever is in it, becomes

@@ -18,8 +18,6 @@ mod pool;
 mod pooled;
 mod rule;
 mod stack;
-#[cfg(test)]
-mod tests;
 mod token;
 
 pub use gate::{Gate, OpenGate};

@@ -13,8 +13,6 @@ mod separator;
 mod symmetry;
 mod table;
 mod term_lines;
-#[cfg(test)]
-mod tests;
 mod tree;
 mod tree_line;
 mod verdict;

@@ -5,8 +5,6 @@ mod any;
 mod any_gate;
 mod leave;
 mod pooled;
-#[cfg(test)]
-mod tests;
 
 pub use any::AnySearcher;
 pub use any_gate::AnyGate;

@@ -16,6 +16,3 @@ pub use mem_sink::{MemSink, PlannedFailure};
 pub use real_files::RealFiles;
 pub use real_sink::RealSink;
 pub use sink::{PutEnd, Sink};
-
-#[cfg(test)]
-mod tests;

@@ -12,8 +12,6 @@ mod names;
 mod refusals;
 mod row;
 mod summary;
-#[cfg(test)]
-mod tests;
 mod text;
 mod trace;
 mod vectors;

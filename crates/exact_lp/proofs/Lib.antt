@@ -9,7 +9,6 @@ pub mod Weighing
 pub mod Placing
 pub mod Meaning
 pub mod Right
-pub mod Examples
 pub mod Tableaux
 pub mod TableFacts
 pub mod Stepping
@@ -20,7 +19,6 @@ pub mod FirstProgram
 pub mod Opening
 pub mod InsideRight
 pub mod InsideAnswer
-pub mod PerfectExamples
 pub mod Separating
 pub mod ProgramOf
 pub mod RunEnds

@@ -15,6 +15,3 @@ pub use law::{
 pub use lists::{Exchanges, Indices, Listed, Weights};
 pub use placed::{Exchange, PlaceOp, Placed};
 pub use simplex::place;
-
-#[cfg(test)]
-mod tests;

@@ -6,6 +6,5 @@ pub mod Meaning
 pub mod Making
 pub mod Answering
 pub mod Wholes
-pub mod Examples
 pub mod Multiples
 pub mod OneRay

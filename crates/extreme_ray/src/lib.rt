@@ -9,6 +9,3 @@ mod start;
 
 pub use law::{at_most_one_ray, outside_has_a_ray};
 pub use ray::{RayFail, ray_of};
-
-#[cfg(test)]
-mod tests;

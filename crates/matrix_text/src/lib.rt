@@ -12,8 +12,6 @@ mod reading;
 mod rows;
 mod symmetry;
 mod table;
-#[cfg(test)]
-mod tests;
 mod writing;
 
 pub use clearing::{ClearFail, cleared};

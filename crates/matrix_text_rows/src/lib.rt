@@ -1,6 +1,7 @@
-//! Texts that are read through the whole of `matrix_text`: faults at other lines than those of its own table, and a number
-//! of thousands of digits.
+//! Texts as `matrix_text` reads, writes and clears them.
 #![tactic(auto)]
 
+#[cfg(test)]
+mod line_tests;
 #[cfg(test)]
 mod tests;

@@ -19,15 +19,12 @@ use Rattle.search_core.specs.Judging.{shown_least, shown_code, IsLowShown}
 use Rattle.search_core.specs.Lowering.{IsNotUnder, IsOver, ServesAsLeast}
 use Rattle.search_core.proofs.LeastValues.{least_upto_le, least_upto_attained, least_value_le, code_not_low}
 use Rattle.search_core.proofs.ShownFates.{shown_least_is}
-
-lower_low : (m : Mode) (a b : ℤ) → a ≤ℤ b → IsLowValue m b → IsLowValue m a
-lower_low Sign a b l h = omega (arith, ints)
-lower_low Least a b l h = omega (arith, ints)
+use Rattle.search_core.proofs.Kept.{low_below}
 
 pub low_of_least : (m : Mode) (c : ShownCone) (z : ℤ) → IsLeastDiagonal c.size (shown_gram c) z → IsLowValue m z ↔ IsLowShown m c
 low_of_least m c z l = (
   λ h. (l.attained.0, l.attained.1, subst (IsLowValue m) (sym l.attained.2) h),
-  λ h. lower_low m z (shown_gram c h.0 h.0) (l.least h.0 h.1) h.2,
+  λ h. low_below m z (shown_gram c h.0 h.0) (l.least h.0 h.1) h.2,
 )
 
 pub serves_least : (m : Mode) (c : ShownCone) (word : ℕ) (z : ℤ) → 1 ≤ c.size → IsLeastDiagonal c.size (shown_gram c) z → ServesAsLeast m c word z

@@ -32,7 +32,7 @@ low_code Least depth (pos zero) h = refl
 low_code Least depth (pos (suc z)) h = absurd (omega (arith, ints))
 low_code Least depth (negsuc z) h = refl
 
-low_below : (m : Mode) (y z : ℤ) → y ≤ℤ z → IsLowValue m z → IsLowValue m y
+pub low_below : (m : Mode) (y z : ℤ) → y ≤ℤ z → IsLowValue m z → IsLowValue m y
 low_below Sign y z le h = omega (arith, ints)
 low_below Least y z le h = omega (arith, ints)
 

@@ -8,13 +8,10 @@ use Rattle.unimodular_cone.specs.Paths.{Path}
 use Rattle.unimodular_cone.specs.Cones.{Matrix, cone_at}
 use Rattle.unimodular_cone.specs.declared.Mode.{Mode}
 use Rattle.search_core.specs.Fair.{Fate, Closed, Split, Low, Dropped, AtLimit, Wide, Judged, code, start_word, least_value, IsFate, IsFair}
-use Rattle.search_core.specs.Machine.{Empty, Taken, Offered, State, children_of, paths, standing, below_splits, due, times, IsCoded, IsKept, AreEmpty}
+use Rattle.search_core.specs.Machine.{Empty, Taken, Offered, State, children_of, paths, standing, below_splits, due, times, IsCoded, IsKept, AreEmpty, alone}
 use Rattle.search_core.proofs.Times.{times-append, times_cons, times_none, times_paths_append, times_below_append}
 use Rattle.search_core.proofs.Kept.{times_standing, take_keeps, offer_keeps, judge_keeps}
 use Rattle.search_core.proofs.Finish.{start_is_kept, end_is_fair}
-
-abbrev pub alone : List Path → ℕ → List Judged → State
-alone stack word judged = record { waiting = stack; hands = Empty ∷ []; word = word; judged = judged }
 
 empty_alone : AreEmpty (Empty ∷ [])
 empty_alone zero = refl

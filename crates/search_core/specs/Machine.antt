@@ -17,6 +17,7 @@
 --     IsCoded s path            the path's cone is judged, or offered in a hand
 --     IsKept m n q d s          what each of these three keeps
 --     AreEmpty hands            nothing is in hand
+--     alone stack word judged   the state with one worker, whose hand is empty
 --     IsStart, IsEnd            the root waits and nothing else is; nothing waits, and nothing is in hand
 use Rattle.std.specs.Prelude.{ℕ, ◌<◌, ◌≤◌, ◌+◌, ◌≡◌, ◌⊎◌, Bool, true, false, cond, List, [], ◌∷◌, ◌++◌, length, min, slice_index_or, slice_set}
 use Rattle.std.specs.List.{Contains}
@@ -146,3 +147,6 @@ pub record IsStart (m : Mode) (n : ℕ) (q : Matrix) (s : State) : Type 0 where
 pub record IsEnd (s : State) : Type 0 where
   pub waiting : s.waiting ≡ []
   pub hands : AreEmpty s.hands
+
+abbrev pub alone : List Path → ℕ → List Judged → State
+alone stack word judged = record { waiting = stack; hands = Empty ∷ []; word = word; judged = judged }

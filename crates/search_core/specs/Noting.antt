@@ -4,8 +4,8 @@
 --     NamesNew n new             the number of the new one is from 1 to n
 --     new_after fate             after a split its mediant is new, in child 0, which is judged next; else none is
 --     AddsNew c new z old keys   the keys are the old ones, those of c's new generators of value z, and maybe others of value z
---     IsLeft before word old keys   what is left of the old keys: none where the word has fallen, else all
---     IsNoted c new before word old keys   under a word over 256 those of the new generators that attain its bound are added to
+--     AreRemembered before word old keys   what is left of the old keys: none where the word has fallen, else all
+--     AddsToNoted c new before word old keys   under a word over 256 those of the new generators that attain its bound are added to
 --                                what is left
 --     HasKey n q keys path k     the keys have that of generator k of the cone at path
 --     IsFairNoted m n q d part keys final   the part has the low ones and the ends of a fair list, and the keys are those of the
@@ -47,12 +47,13 @@ pub record AddsNew (c : ShownCone) (fresh : NewGenerators) (z : ℤ) (old new : 
   pub only : (x : List ℕ) → Contains new x
       → Contains old x ⊎ ((k : ℕ) × (k < c.size) × (shown_gram c k k ≡ z) × IsKeyOf c k x)
 
-abbrev pub IsLeft : ℕ → ℕ → List (List ℕ) → List (List ℕ) → Type 0
-IsLeft before word old left = ((word < before) × (left ≡ [])) ⊎ ((before ≤ word) × (left ≡ old))
+abbrev pub AreRemembered : ℕ → ℕ → List (List ℕ) → List (List ℕ) → Type 0
+AreRemembered before word old left = ((word < before) × (left ≡ [])) ⊎ ((before ≤ word) × (left ≡ old))
 
-pub record IsNoted (c : ShownCone) (fresh : NewGenerators) (before word : ℕ) (old new : List (List ℕ)) : Type 0 where
+pub record AddsToNoted (c : ShownCone) (fresh : NewGenerators) (before word : ℕ) (old new : List (List ℕ))
+    : Type 0 where
   pub left : List (List ℕ)
-  pub is_left : IsLeft before word old left
+  pub is_left : AreRemembered before word old left
   pub adds : 256 < word → AddsNew c fresh (pos (word - 256)) left new
 
 abbrev pub HasKey : ℕ → Matrix → List (List ℕ) → Path → ℕ → Type 0

@@ -5,7 +5,7 @@
 //! those that were seen before attains its bound.
 
 ghost use Rattle.std.specs.Prelude.{◌≡◌, pos, OnOk};
-ghost use Rattle.search_core.specs.Noting.{NamesNew, new_after, AddsNew, IsLeft, IsNoted};
+ghost use Rattle.search_core.specs.Noting.{NamesNew, new_after, AddsNew, AreRemembered, AddsToNoted};
 
 use crate::attaining::{Key, add_attaining, add_key, key_of};
 use crate::fate::Fate;
@@ -60,7 +60,7 @@ fn add_new<C: ConeRead>(
 /// Forgets the keys that were noted under the word before, where the word has fallen.
 #[inline(always)]
 fn forget_fallen(found: &mut BTreeSet<Key>, before: u64, word: u64)
-    ensures { IsLeft before word found.old.keys found.new.keys }
+    ensures { AreRemembered before word found.old.keys found.new.keys }
 {
     if word < before {
         found.clear();
@@ -78,7 +78,7 @@ pub fn note_new<C: ConeTests>(
     word: u64,
 ) -> Result<(), AllocError>
     requires { NamesNew (C.cone c.now).size fresh }
-    ensures { OnOk result (IsNoted (C.cone c.now) fresh before word found.old.keys found.new.keys) }
+    ensures { OnOk result (AddsToNoted (C.cone c.now) fresh before word found.old.keys found.new.keys) }
 {
     forget_fallen(found, before, word);
     if word > 256 {

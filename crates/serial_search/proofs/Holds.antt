@@ -1,5 +1,5 @@
 -- What the answers say, and the answers at the root.
-use Rattle.std.specs.Prelude.{◌≢◌, ℕ, []}
+use Rattle.std.specs.Prelude.{◌≢◌, ℕ, [], Option, Some, None, Result, Ok, Err, IfOk, IfSome}
 use Rattle.std.proofs.Common.{inl}
 use Rattle.exact_forms.specs.Forms.{IsSymmetric}
 use Rattle.unimodular_cone.specs.declared.Mode.{Mode}
@@ -37,3 +37,9 @@ sign_holds n q d Sign.OutOfMemory s a = tt
 pub not_memory : (P : WideAt → Type 0) (fail : ConeFail) → IsWideWhere P fail → fail ≢ OutOfMemory
 not_memory P (Wide at) w e = (cc)
 not_memory P OutOfMemory w e = w
+
+-- what holds anyway holds of what is found
+pub anyway : {A E : Type 0} (F : Type 0) (r : Result (Option A) E) → F → IfOk r (λ x. IfSome x (λ _. F))
+anyway F (Ok None) f = tt
+anyway F (Ok (Some x)) f = f
+anyway F (Err e) f = tt

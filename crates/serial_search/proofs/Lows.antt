@@ -30,7 +30,8 @@ use Rattle.search_core.proofs.Answers.{some_low, final_bound}
 use Rattle.serial_search.specs.declared.values.LowCone.{LowCone}
 use Rattle.serial_search.specs.Turns.{IsOnTop, AreStacked}
 use Rattle.serial_search.specs.Walks.{ComesFirst, ComesBehind, IsLowNoted, IsFirstLowCone, IsClearWord}
-use Rattle.serial_search.proofs.Stacks.{IsSearchedPlainly, plain_starts, plain_step, plain_ends, cones_left}
+use Rattle.serial_search.specs.Searching.{IsSearchedPlainly}
+use Rattle.serial_search.proofs.Stacks.{plain_starts, plain_step, plain_ends, cones_left}
 
 -- ---- the order by depth
 no_deeper_self : (p : Path) → IsNoDeeper p p

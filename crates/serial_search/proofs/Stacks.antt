@@ -24,27 +24,25 @@ use Rattle.exact_forms.proofs.Lists.{top_in, nothing_in}
 use Rattle.search_core.specs.declared.Fate.{Fate}
 use Rattle.search_core.specs.declared.Fate.TheVariants.{Closed, Split, Low, Dropped, AtLimit, Wide}
 use Rattle.search_core.specs.declared.Judged.{Judged}
-use Rattle.search_core.specs.Fair.{code, start_word, bound_under, IsSplit, IsLowFate, IsEndFate, IsFate, IsFair, HasLowAndEnds, IsSameGenerator}
+use Rattle.search_core.specs.Fair.{code, start_word, bound_under, IsSplit, IsLowFate, IsEndFate, IsFate, IsFair, IsSameGenerator}
 use Rattle.search_core.specs.declared.NewGenerators.{NewGenerators}
 use Rattle.search_core.specs.declared.NewGenerators.TheVariants.{Each, One, NoOne}
-use Rattle.search_core.specs.Attaining.{IsPadded, IsKeyOf}
+use Rattle.search_core.specs.Attaining.{IsKeyOf}
 use Rattle.search_core.specs.Kept.{IsUnneededFate, IsConeKept}
-use Rattle.search_core.specs.Noting.{IsNew, NamesNew, new_after, IsLeft, IsNoted, HasKey, IsFairNoted}
+use Rattle.search_core.specs.Noting.{IsNew, NamesNew, new_after, AreRemembered, AddsToNoted, HasKey, IsFairNoted}
 use Rattle.search_core.specs.Lowering.{IsNotUnder, AreOthersOver, HasOthersOver}
 use Rattle.search_core.specs.Judging.{shown_code, shown_least, IsShownFate, IsJudgementOf}
-use Rattle.search_core.specs.Machine.{IsKept}
+use Rattle.search_core.specs.Machine.{IsKept, alone}
 use Rattle.search_core.proofs.ShownFates.{shown_code_at, shown_least_at, fate_at, path_fate}
 use Rattle.search_core.proofs.PathFates.{IsPathFate}
 use Rattle.search_core.proofs.Laws.{fate_unique}
 use Rattle.search_core.proofs.Deciding.{code_not_under}
 use Rattle.search_core.proofs.Keys.{padded_at, padded_same, same_key}
 use Rattle.search_core.proofs.SameGenerators.{same_itself, same_value, first_other, second_other, second_mediant}
-use Rattle.search_core.proofs.Serial.{alone, alone_start, alone_end, stacked, stack_turn}
+use Rattle.search_core.proofs.Serial.{alone_start, alone_end, stacked, stack_turn}
 use Rattle.serial_search.specs.Turns.{IsOnTop, AreChildrenOn, AreStacked}
+use Rattle.serial_search.specs.Searching.{path_of, IsSearchedPlainly, IsCovered, IsNewOnTop, IsOfJudged, HasNoted, IsStack, IsSearching}
 use Rattle.serial_search.proofs.Tops.{same_top}
-
-abbrev pub path_of : ShownCone → Path
-path_of c = c.path
 
 -- the most cones that can still come
 abbrev pub still : ℕ → ShownCone → ℕ
@@ -103,6 +101,14 @@ module _ (d : ℕ) (stack front new : List ShownCone) (cone : ShownCone) (within
       by (AtLimit w) short s = gone s
       by (Wide w a) short s = gone s
 
+pub fewer_gone : (d : ℕ) (stack rest new : List ShownCone) (cone : ShownCone) → length cone.path ≤ d → IsOnTop cone rest stack → new ≡ rest
+    → cones_left d new < cones_left d stack
+fewer_gone d stack rest new cone within popped gone = fewer_cones d stack rest new cone within popped (Dropped 0) (λ split. absurd split) gone
+
+pub fewer_above : (d : ℕ) (below new stack : List ShownCone) → cones_left d (below ++ new) < cones_left d (below ++ stack)
+    → cones_left d new < cones_left d stack
+fewer_above d below new stack fewer = omega (arith, fewer, left-append d below new, left-append d below stack)
+
 -- ---- the cones of a new stack
 in_front : (stack front : List ShownCone) (cone : ShownCone) → IsOnTop cone front stack → (c : ShownCone) → Contains front c → Contains stack c
 in_front stack front cone popped c there = subst (λ (s : List ShownCone). Contains s c) (sym popped) (Contains-append_left front (cone ∷ []) c there)
@@ -125,10 +131,6 @@ each_new cone i j front new s P fronts second first c there =
     by (inr k) = of_two (contains_cons s.second (s.first ∷ []) c k)
 
 -- ---- what stands of a search that has judged these cones
-pub record IsSearchedPlainly (m : Mode) (n : ℕ) (q : Matrix) (d : ℕ) (stack : List ShownCone) (word : ℕ) (judged : List Judged) : Type 0 where
-  pub state : IsKept m n q d (alone (map path_of stack) word judged)
-  pub cones : (c : ShownCone) → Contains stack c → IsConeAt n q c.path c × (length c.path ≤ d)
-
 pub plain_starts : (m : Mode) (n : ℕ) (q : Matrix) (d : ℕ) (root : ShownCone) → IsConeAt n q [] root
     → IsSearchedPlainly m n q d (root ∷ []) (start_word m n q) []
 plain_starts m n q d root at = record {
@@ -228,42 +230,6 @@ module _ (m : Mode) (n : ℕ) (q : Matrix) (d : ℕ) (stack front new : List Sho
   )
 
 -- ---- a search that keeps what is needed and notes what attains the bound
--- the key of generator k of the cone at path is noted, if its value is at most the word's bound
-abbrev pub IsCovered : ℕ → Matrix → ℕ → List (List ℕ) → Path → ℕ → Type 0
-IsCovered n q word keys path k = 256 < word → value n q (cone_at n q path) k ≤ℤ bound_under Least word → HasKey n q keys path k
-
--- generator k of the cone at path is a new one of the top
-pub record IsNewOnTop (n : ℕ) (q : Matrix) (stack : List ShownCone) (fresh : NewGenerators) (path : Path) (k : ℕ) : Type 0 where
-  pub top : ShownCone
-  pub rest : List ShownCone
-  pub on_top : IsOnTop top rest stack
-  pub l : ℕ
-  pub is_new : IsNew fresh l
-  pub same : IsSameGenerator n q path k top.path l
-
--- the key is that of a generator of a judged cone that attains the word's bound
-abbrev pub IsOfJudged : ℕ → Matrix → ℕ → List Judged → List ℕ → Type 0
-IsOfJudged n q word all x = (j : Judged) × (k : ℕ) × Contains all j × (k < n) × IsPadded n x (cone_at n q j.path k)
-    × (value n q (cone_at n q j.path) k ≡ bound_under Least word)
-
--- the keys are those of the generators of judged cones that attain the word's bound
-pub record HasNoted (n : ℕ) (q : Matrix) (word : ℕ) (all : List Judged) (keys : List (List ℕ)) : Type 0 where
-  pub each : 256 < word → (x : List ℕ) → Contains keys x → IsOfJudged n q word all x
-  pub covered : (j : Judged) (k : ℕ) → Contains all j → k < n → IsCovered n q word keys j.path k
-
--- each generator of a cone on the stack is covered, or is a new one of the top
-pub record IsStack (n : ℕ) (q : Matrix) (stack : List ShownCone) (word : ℕ) (fresh : NewGenerators) (keys : List (List ℕ)) : Type 0 where
-  pub waiting : (c : ShownCone) → Contains stack c → (k : ℕ) → k < n → IsCovered n q word keys c.path k ⊎ IsNewOnTop n q stack fresh c.path k
-  pub named : NamesNew n fresh
-
-pub record IsSearching (m : Mode) (n : ℕ) (q : Matrix) (d : ℕ) (stack : List ShownCone) (word : ℕ) (fresh : NewGenerators) (kept : List Judged)
-    (keys : List (List ℕ)) : Type 0 where
-  pub all : List Judged
-  pub plain : IsSearchedPlainly m n q d stack word all
-  pub has : HasLowAndEnds all kept
-  pub noted : HasNoted n q word all keys
-  pub stack_is : IsStack n q stack word fresh keys
-
 -- a value is over the bound of a word over 256, or within it
 over_or_within : (z : ℤ) (word : ℕ) → 256 < word → IsNotUnder word z ⊎ (z ≤ℤ bound_under Least word)
 over_or_within z word over = grind (arith, ints)
@@ -365,7 +331,7 @@ module _ (m : Mode) (n : ℕ) (q : Matrix) (d : ℕ) (stack front new : List Sho
     (kept kept' : List Judged) (keys keys' : List (List ℕ)) (some : 1 ≤ n) (limited : d ≤ 200) (h : IsSearching m n q d stack word fresh kept keys)
     (popped : IsOnTop cone front stack)
     (lowered : lower ≡ min word (shown_code m cone)) (shown : IsShownFate m cone d lower f) (stacks : AreStacked cone f front new)
-    (keeps : IsConeKept m d lower cone f kept kept') (notes : IsNoted cone fresh word lower keys keys') where
+    (keeps : IsConeKept m d lower cone f kept kept') (notes : AddsToNoted cone fresh word lower keys keys') where
   abbrev j : Judged
   j = record { path = cone.path; fate = f; least = shown_least cone }
 
@@ -449,7 +415,7 @@ module _ (m : Mode) (n : ℕ) (q : Matrix) (d : ℕ) (stack front new : List Sho
       has : HasKey n q keys path k
       has = c high (bound_falls over _ below)
 
-      by : IsLeft word lower keys notes.left → HasKey n q keys' path k
+      by : AreRemembered word lower keys notes.left → HasKey n q keys' path k
       by (inl (fell, e)) = absurd (
           let v : value n q (cone_at n q path) k ≡ bound_under Least word = key_attains n q word h.all keys h.noted high path k has in
           omega (arith, ints, below)
@@ -495,7 +461,7 @@ module _ (m : Mode) (n : ℕ) (q : Matrix) (d : ℕ) (stack front new : List Sho
       high : 256 < word
       high = let f : lower ≤ word = falls in omega arith
 
-      old : Contains notes.left x → IsLeft word lower keys notes.left → IsOfJudged n q lower (j ∷ h.all) x
+      old : Contains notes.left x → AreRemembered word lower keys notes.left → IsOfJudged n q lower (j ∷ h.all) x
       old c (inl (fell, e)) = absurd (nothing_in x (subst (λ (l : List (List ℕ)). Contains l x) e c))
       old c (inr (stayed, e)) =
           let (p, k, judged, range, padded, attains) = h.noted.each high x (subst (λ (l : List (List ℕ)). Contains l x) e c) in

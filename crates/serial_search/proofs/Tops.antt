@@ -7,7 +7,7 @@ use Rattle.std.proofs.lemmas.List.Elements.{Contains-push}
 use Rattle.commutative_ring.proofs.SmallCases.{below_unless_same}
 use Rattle.unimodular_cone.specs.declared.Mode.{Mode}
 use Rattle.unimodular_cone.specs.Shown.{ShownCone, FitsOnBothSides, IsChild}
-use Rattle.cone_arena.specs.Arena.{ShownArena, IsTopReplaced}
+use Rattle.cone_arena.specs.Arena.{ShownArena, IsTopReplaced, IsDropped}
 use Rattle.search_core.specs.declared.Fate.{Fate}
 use Rattle.search_core.specs.declared.Fate.TheVariants.{Closed, Split, Low, Dropped, AtLimit, Wide}
 use Rattle.search_core.specs.Judging.{IsShownFate}
@@ -32,6 +32,12 @@ same_rest cones rest other c d a b =
     ∙ ap (take (length rest)) (sym a ∙ b)
     ∙ ap (λ (k : ℕ). take k (other ++ d ∷ [])) same
     ∙ take-append_seam other (d ∷ [])
+
+pub dropped_is : (a b : ShownArena) (rest : List ShownCone) (c : ShownCone) → IsOnTop c rest a.cones → IsDropped a b → b.cones ≡ rest
+dropped_is a b rest c top dropped =
+    let l : length a.cones ≡ length rest + 1 = ap length top ∙ length-append rest (c ∷ []) in
+    let one_fewer : length a.cones - 1 ≡ length rest = omega (arith, l) in
+    dropped.cones ∙ ap (λ (k : ℕ). take k a.cones) one_fewer ∙ ap (take (length rest)) top ∙ take-append_seam rest (c ∷ [])
 
 -- an arena whose top was replaced by its children is turned
 pub split_turned : (a b : ShownArena) (i j w : ℕ) → IsTopReplaced a i j b → IsTurnOf a (Split i j w) b

@@ -5,7 +5,7 @@ use Rattle.unimodular_cone.specs.Shown.{ShownCone}
 use Rattle.cone_arena.specs.Arena.{ShownArena}
 use Rattle.search_core.specs.declared.Fate.{Fate}
 use Rattle.serial_search.specs.Turns.{IsOnTop, IsTurnOf}
-use Rattle.serial_search.specs.Values.{IsArenaEmptied}
+use Rattle.serial_search.specs.Turns.{IsArenaEmptied}
 use Rattle.serial_search.proofs.Tops.{AreDeep, deep_turned}
 
 pub record IsWalkArena (limit : ℕ) (before now : ShownArena) : Type 0 where

@@ -2,3 +2,4 @@ pub mod Turns
 pub mod Found
 pub mod Values
 pub mod Walks
+pub mod Searching

@@ -5,6 +5,7 @@
 --     MayTurn a fate              where the fate is Split: the top of the arena may be split so, and both its children fit
 --     IsTurnOf a fate b           b is a with the children of a Split in the place of its top, or without its top
 --     IsRootAlone q cones         the cones are the root's of the matrix alone
+--     IsArenaEmptied a b          b is a without cones
 --
 -- The top of a list is that of the arena.
 use Rattle.std.specs.Prelude.{ℕ, ◌≡◌, ◌-◌, true, false, List, [], ◌∷◌, ◌++◌}
@@ -47,3 +48,8 @@ pub record IsRootAlone (q : Symmetric) (cones : List ShownCone) : Type 0 where
   pub root : ShownCone
   pub is_root : IsConeAt q.size (entry q) [] root
   pub alone : cones ≡ root ∷ []
+
+pub record IsArenaEmptied (a b : ShownArena) : Type 0 where
+  pub size : b.size ≡ a.size
+  pub depth : b.depth ≡ a.depth
+  pub empty : b.cones ≡ []

@@ -7,13 +7,11 @@
 --     ValueHolds n q answer        Found has the copositive minimum; Low has a nonzero vector of the value, which is low
 --     IsValueOf least answer       the answer is this one of `least`, its list left out; want of memory is free
 --     ValueIsOfLeast               at most one answer without the list goes with what `least` may answer
---     IsArenaEmptied a b           b is a without cones
-use Rattle.std.specs.Prelude.{ℕ, ℤ, pos, ◌≤ℤ◌, ◌≡◌, List, [], length}
+use Rattle.std.specs.Prelude.{ℕ, ℤ, pos, ◌≤ℤ◌, ◌≡◌, List, length}
 use Rattle.exact_forms.specs.Forms.{form}
 use Rattle.unimodular_cone.specs.Cones.{Matrix}
 use Rattle.unimodular_cone.specs.declared.Mode.{Mode}
 use Rattle.unimodular_cone.specs.Answer.{SearchAnswer, IsSearchAnswer, IsClosedAnswer, IsLowVector, Attains, IsNonzero, coordinate}
-use Rattle.cone_arena.specs.Arena.{ShownArena}
 use Rattle.search_core.specs.declared.Least.{Least}
 use Rattle.search_core.specs.Answers.{IsLeastAnswer}
 use Rattle.serial_search.specs.declared.values.ValueOnly.{ValueOnly}
@@ -48,8 +46,3 @@ IsValueOf Least.OutOfMemory answer = Unit {0}
 abbrev pub ValueIsOfLeast : Type 0
 ValueIsOfLeast = (n : ℕ) (q : Matrix) (d : ℕ) (least : Least) (answer : ValueOnly)
     → IsLeastAnswer n q d least → IsLeastValueAnswer n q d answer → IsValueOf least answer
-
-pub record IsArenaEmptied (a b : ShownArena) : Type 0 where
-  pub size : b.size ≡ a.size
-  pub depth : b.depth ≡ a.depth
-  pub empty : b.cones ≡ []

@@ -2,6 +2,7 @@
 #![tactic(auto)]
 
 mod law;
+mod mixed_search;
 mod narrow_search;
 #[cfg(test)]
 mod plain;

@@ -1,19 +1,22 @@
-//! The search over narrow cones, which ends without an answer where a child is not narrow.
+//! The search over narrow cones, as far as cones are narrow: from the root, or from each cone that is the first narrow one on its
+//! path. It ends without an answer where a narrow cone has a child that is not.
 
-ghost use Rattle.std.specs.Prelude.{◌≡◌, ◌≤◌, ◌<◌, length, IfOk, IfSome, IsTrue};
+ghost use Rattle.std.specs.Prelude.{◌≡◌, ◌≤◌, ◌<◌, ◌++◌, [], ◌∷◌, length, List, IfOk, IfSome, IsTrue};
 ghost use Rattle.symmetric_matrix.specs.Symmetric.{entry};
 ghost use Rattle.unimodular_cone.specs.Answer.{BoundFits};
 ghost use Rattle.unimodular_cone.specs.Cones.{Fits, unit_vectors};
+ghost use Rattle.unimodular_cone.specs.Shown.{ShownCone, IsConeAt, IsWithinLimits};
 ghost use Rattle.serial_search.specs.Found.{IsFairSearch};
-ghost use Rattle.serial_search.specs.Turns.{MayTurn, IsTurnOf, IsRootAlone};
+ghost use Rattle.serial_search.specs.Searching.{IsSearchingOver, IsOne};
+ghost use Rattle.serial_search.specs.Turns.{MayTurn, IsTurnOf, IsArenaEmptied};
 
+use crate::mixed_search::search_from_wide;
 use crate::search::Judgements;
 use cone_arena::NarrowArena;
 use search_core::{Fate, NewGenerators, keep_fate, lowering_fate, note_new, start_word};
 use std::alloc::{AllocError, Global};
-use std::collections::BTreeSet;
 use symmetric_matrix::SymInt;
-use unimodular_cone::{Mode, narrow_root};
+use unimodular_cone::{Mode, NarrowCone, narrow_root};
 
 /// Puts the children of a split top in its place, child 0 last, where both are narrow. A top of any other fate is taken away.
 /// Answers whether that was done.
@@ -30,45 +33,72 @@ fn turn(arena: &mut NarrowArena, fate: &Fate) -> bool
     true
 }
 
-/// Searches from the root of a matrix, which stands alone in an arena that was made for the limit. None where a child is not
-/// narrow.
-fn search_over(
-    alloc: Global,
+/// Searches from a narrow cone, which stands alone in an arena that was made for the limit and is then empty. It is the top of
+/// what the search that found this has still to judge, and of which these generators are new. Answers which are new in the cone
+/// below it. None where a child is not narrow.
+pub(crate) fn search_above(
     mode: Mode,
     q: &SymInt,
     limit: u8,
     arena: &mut NarrowArena,
-) -> Result<Option<Judgements>, AllocError>
+    fresh: NewGenerators,
+    found: &mut Judgements,
+) -> Result<Option<NewGenerators>, AllocError>
     requires limited { limit ≤ 200 }
-    requires bound_fits { BoundFits mode q.now.size (entry q.now) }
     requires room { limit ≤ arena.old.depth }
-    requires root { IsRootAlone q.now arena.old.cones }
-    ensures { IfOk result (λ r. IfSome r (IsFairSearch mode q.now limit)) }
+    requires alone { IsOne arena.old.cones }
+    requires stands { (below : List ShownCone)
+        × IsSearchingOver mode q.now limit (below ++ arena.old.cones) fresh found.old }
+    ensures searched { (below : List ShownCone)
+        → IsSearchingOver mode q.now limit (below ++ arena.old.cones) fresh found.old
+        → IfOk result (λ r. IfSome r (λ next. IsSearchingOver mode q.now limit below next found.new)) }
+    ensures emptied { IfOk result (λ r. IfSome r (λ _. IsArenaEmptied arena.old arena.new)) }
 {
     let _n = q.n();
-    let mut judged = Vec::new(alloc);
-    let mut attaining = BTreeSet::new(alloc);
-    let mut word = start_word(mode, q);
-    let mut fresh = NewGenerators::Each;
+    let mut word = found.final_word;
+    let mut fresh = fresh;
     while arena.len() > 0 {
         let cone = arena.top();
         let before = word;
         let fate = lowering_fate(mode, cone, limit, fresh, &mut word);
-        keep_fate(&mut judged, mode, cone, limit, &fate, word)?;
-        note_new(&mut attaining, cone, fresh, before, word)?;
+        keep_fate(&mut found.judged, mode, cone, limit, &fate, word)?;
+        note_new(&mut found.attaining, cone, fresh, before, word)?;
         if !turn(arena, &fate) {
             return Ok(None);
         }
         fresh = NewGenerators::after(&fate);
     }
-    Ok(Some(Judgements {
-        judged,
-        attaining,
-        final_word: word,
-    }))
+    found.final_word = word;
+    Ok(Some(fresh))
 }
 
-/// Searches a matrix over narrow cones. None where the root or a child is not narrow.
+/// Searches from the root, which is narrow, over an empty arena that was made for the limit. None where a child is not narrow.
+fn search_from(
+    alloc: Global,
+    mode: Mode,
+    q: &SymInt,
+    limit: u8,
+    root: NarrowCone,
+    mut arena: NarrowArena,
+) -> Result<Option<Judgements>, AllocError>
+    requires limited { limit ≤ 200 }
+    requires bound_fits { BoundFits mode q.now.size (entry q.now) }
+    requires room { limit ≤ arena.depth }
+    requires size { arena.size ≡ q.now.size }
+    requires empty { arena.cones ≡ [] }
+    requires root { IsConeAt q.now.size (entry q.now) [] root }
+    ensures { IfOk result (λ r. IfSome r (IsFairSearch mode q.now limit)) }
+{
+    arena.put_alone(root);
+    let mut found = Judgements::none(alloc, start_word(mode, q));
+    match search_above(mode, q, limit, &mut arena, NewGenerators::Each, &mut found)? {
+        Some(_) => Ok(Some(found)),
+        None => Ok(None),
+    }
+}
+
+/// Searches a matrix over narrow cones, as far as cones are narrow. None where a narrow cone has a child that is not, and where the
+/// root is over its limit.
 pub fn search_narrow(
     alloc: Global,
     mode: Mode,
@@ -80,9 +110,9 @@ pub fn search_narrow(
     ensures fair { IfOk result (λ r. IfSome r (IsFairSearch mode q.now limit)) }
     ensures fits { IfOk result (λ r. IfSome r (λ _. Fits q.now.size (entry q.now) unit_vectors)) }
 {
-    let Some(root) = narrow_root(q) else {
-        return Ok(None);
-    };
-    let mut arena = NarrowArena::with_root(alloc, limit, root)?;
-    search_over(alloc, mode, q, limit, &mut arena)
+    let arena = NarrowArena::with_cones(alloc, q.n(), limit)?;
+    match narrow_root(q) {
+        Some(root) => search_from(alloc, mode, q, limit, root, arena),
+        None => search_from_wide(alloc, mode, q, limit, arena),
+    }
 }

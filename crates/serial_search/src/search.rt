@@ -1,7 +1,7 @@
 //! A search depth first over the cones of an arena: the top is judged where it stands. A split one becomes its child 1, with its
 //! child 0 above, and any other is taken away.
 
-ghost use Rattle.std.specs.Prelude.{◌≡◌, ◌≤◌, ◌<◌, length, IfOk};
+ghost use Rattle.std.specs.Prelude.{◌≡◌, ◌≤◌, ◌<◌, [], length, IfOk};
 ghost use Rattle.symmetric_matrix.specs.Symmetric.{entry};
 ghost use Rattle.unimodular_cone.specs.Answer.{BoundFits};
 ghost use Rattle.unimodular_cone.specs.Cones.{Fits, unit_vectors};
@@ -28,6 +28,21 @@ pub struct Judgements {
     pub attaining: BTreeSet<Key>,
     /// The word after all of them.
     pub final_word: u64,
+}
+
+impl Judgements {
+    /// Nothing found yet, under the word before any cone is judged.
+    pub(crate) fn none(alloc: Global, word: u64) -> Judgements
+        ensures judged { result.judged.items ≡ [] }
+        ensures attaining { result.attaining.keys ≡ [] }
+        ensures word { result.final_word ≡ word }
+    {
+        Judgements {
+            judged: Vec::new(alloc),
+            attaining: BTreeSet::new(alloc),
+            final_word: word,
+        }
+    }
 }
 
 /// Puts the children of a split top in its place, child 0 last. A top of any other fate is taken away.

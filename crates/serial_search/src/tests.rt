@@ -242,6 +242,30 @@ fn searches_at_the_narrow_limit(rt: HostRuntime) -> Result<(), Fail> {
     Ok(())
 }
 
+// 2^58 (2x - y)^2 + y^2, and with z the same and 3 2^58 yz + 2^58 z^2. Neither root is narrow, child 0 is; the product of (1, 2, 0)
+// and (0, 0, 1) is not.
+#[test]
+fn narrow_cones_below_a_wide_root(rt: HostRuntime) -> Result<(), Fail> {
+    let alloc = rt.alloc();
+    let mut searcher = SerialSearcher::new(alloc);
+    let plane = two(alloc, 2 * NARROW, 0 - NARROW, NARROW / 2 + 1)?;
+    assert_eq!(&rt; kept_and_noted(alloc, &plane, 60)?, Some((0, 1)));
+    assert_found(&rt, &searcher.least(&plane, 60), 4, &[1, 2]);
+    let half = NARROW / 2;
+    let space = three(
+        alloc,
+        2 * NARROW,
+        0 - NARROW,
+        half + 1,
+        0,
+        half + half / 2,
+        half,
+    )?;
+    assert_eq!(&rt; kept_and_noted(alloc, &space, 60)?, None);
+    assert_found(&rt, &searcher.least(&space, 60), 4, &[1, 2, 0]);
+    Ok(())
+}
+
 #[test]
 fn every_judgement_settles_to_the_same(rt: HostRuntime) -> Result<(), Fail> {
     let alloc = rt.alloc();

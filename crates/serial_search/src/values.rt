@@ -10,8 +10,8 @@ ghost use Rattle.unimodular_cone.specs.Cones.{unit_vectors, Fits};
 ghost use Rattle.unimodular_cone.specs.Answer.{BoundFits, IsListOf};
 ghost use Rattle.unimodular_cone.specs.Shown.{IsWithinLimits, shown_generators};
 ghost use Rattle.search_core.specs.Attaining.{IsKeyOf};
-ghost use Rattle.serial_search.specs.Turns.{IsRootAlone};
-ghost use Rattle.serial_search.specs.Values.{IsLeastValueAnswer, ValueHolds, IsArenaEmptied};
+ghost use Rattle.serial_search.specs.Turns.{IsRootAlone, IsArenaEmptied};
+ghost use Rattle.serial_search.specs.Values.{IsLeastValueAnswer, ValueHolds};
 ghost use Rattle.serial_search.specs.Walks.{ComesFirst, ComesBehind, IsLowNoted, IsFirstLowCone, IsClearWord, IsFallen};
 
 use crate::search::turn;

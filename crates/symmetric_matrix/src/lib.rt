@@ -21,6 +21,3 @@ pub use start::{
 };
 pub use vector::IntVector;
 pub use vector_list::VectorList;
-
-#[cfg(test)]
-mod tests;

@@ -29,6 +29,7 @@ pub mod NarrowSums
 pub mod NarrowParts
 pub mod NarrowChildren
 pub mod NarrowRoots
+pub mod NarrowCopies
 pub mod NarrowReplaced
 pub mod ShallowCoordinates
 pub mod Tops

@@ -1,5 +1,5 @@
 -- The numbers of a narrow child, made from its parent's: the mediant's products are written, and then the entry on the diagonal.
-use Rattle.std.specs.Prelude.{◌≡◌, ℕ, ◌<◌, ◌+◌, ℤ, pos, ◌+ℤ◌, FitsSigned, List, length, slice_index_or, slice_set}
+use Rattle.std.specs.Prelude.{◌≡◌, ℕ, ◌<◌, ℤ, pos, ◌+ℤ◌, FitsSigned, List, length, slice_index_or, slice_set}
 use Rattle.std.specs.Int.{w64}
 use Rattle.std.proofs.Common.{arith, to_z, of_z, ◌∙◌, ap}
 use Rattle.unimodular_cone.specs.declared.cone.Cone.TheInside.{Inside}

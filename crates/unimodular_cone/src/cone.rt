@@ -1,6 +1,6 @@
 //! Cones that keep their numbers inline.
 
-ghost use Rattle.std.specs.Prelude.{◌≡◌, ◌≢◌, ◌≤◌, ◌<◌, ◌-◌, [], ◌∷◌, ◌++◌, true, false, length, nat_eq, None, IfOk, IfErr};
+ghost use Rattle.std.specs.Prelude.{◌≡◌, ◌≢◌, ◌≤◌, ◌<◌, ◌-◌, [], ◌∷◌, ◌++◌, true, false, length, map, take, nat_eq, None, IfOk, IfErr};
 ghost use Rattle.exact_forms.specs.Triangles.{triangle};
 ghost use Rattle.symmetric_matrix.specs.Symmetric.{entry};
 ghost use Rattle.unimodular_cone.specs.Copies.{IsCopiedTo, AreRowsCopied};
@@ -150,6 +150,21 @@ impl Cone {
     {
         let _n = self.n;
         self.gram[place_of(row, column)]
+    }
+
+    /// The lower triangle of the Gram matrix row by row, and behind it numbers that don't count.
+    pub(crate) fn lower(&self) -> &[i128; 36]
+        ensures { take (triangle self.now.size) result.now ≡ self.now.lower }
+    {
+        &self.gram
+    }
+
+    /// A row for each generator, and numbers that don't count behind it and in the rows after them.
+    pub(crate) fn rows(&self) -> &[[u64; 8]; 8]
+        ensures shown { map (take self.now.size) (take self.now.size result.now) ≡ self.now.generators }
+        ensures room { length result.now ≡ 8 }
+    {
+        &self.generators
     }
 
     /// The same cone again.

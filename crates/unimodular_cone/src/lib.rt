@@ -14,15 +14,11 @@ mod narrow_bound;
 mod narrow_numbers;
 mod narrow_pair;
 mod narrow_sums;
-#[cfg(test)]
-mod narrow_tests;
 mod pair_rule;
 mod path;
 mod place;
 mod refusal;
 mod root_numbers;
-#[cfg(test)]
-mod tests;
 
 pub use bound_test::{closed, least_value};
 pub use cone::{Cone, at_path, child, root};

@@ -9,12 +9,12 @@ ghost use Rattle.unimodular_cone.specs.Narrow.{HasNarrowGram, HasNarrowMediant, 
 ghost use Rattle.unimodular_cone.specs.Replacement.{IsChildWith, IsRowSet};
 ghost use Rattle.unimodular_cone.specs.Shown.{FitsOnBothSides, shown_gram, IsWithinLimits, IsConeAt, IsChild};
 
-use crate::cone::copy_rows;
+use crate::cone::{Cone, copy_rows};
 use crate::cone_read::ConeRead;
 use crate::cone_tests::ConeTests;
 use crate::mediant::{children_fit, mediant_coordinates};
 use crate::narrow_bound::{closed, least_value};
-use crate::narrow_numbers::{is_narrow, narrow_lower_of};
+use crate::narrow_numbers::{entries_of, is_narrow, narrow_copies, narrow_lower_of};
 use crate::narrow_pair::pair;
 use crate::narrow_sums::{are_narrow, coordinates_fit, products};
 use crate::path::Path;
@@ -110,6 +110,22 @@ impl NarrowCone {
         self.path = other.path;
         copy_lower(&mut self.gram, &other.gram, n);
         copy_rows(&mut self.generators, &other.generators, n);
+    }
+
+    /// The same cone as one of any Gram entries, whose coordinates are at most two to the depth, as those of each cone of a tree
+    /// are. None where a Gram entry is not narrow.
+    pub fn of(c: &Cone) -> Option<NarrowCone>
+        requires { HasShallowCoordinates c.now }
+        ensures { IfSome result (λ r. r ≡ c.now) }
+    {
+        let n = c.n();
+        let gram = narrow_copies(c.lower(), entries_of(n))?;
+        Some(NarrowCone {
+            n,
+            path: c.path(),
+            gram,
+            generators: *c.rows(),
+        })
     }
 
     /// A Gram entry, in either triangle, at a row and a column that count from 0.

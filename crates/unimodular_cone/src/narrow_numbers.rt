@@ -1,8 +1,9 @@
-//! The numbers of the root's cone where they are narrow.
+//! Numbers of the root's cone and of a cone of any Gram entries, where they are narrow.
 
-ghost use Rattle.std.specs.Prelude.{◌≡◌, ◌≤◌, ◌<◌, ◌^◌, ◌↔◌, ℕ, IsTrue, nat_abs};
+ghost use Rattle.std.specs.Prelude.{◌≡◌, ◌≤◌, ◌<◌, ◌^◌, ◌↔◌, ℕ, IsTrue, IfSome, nat_abs};
+ghost use Rattle.exact_forms.specs.Triangles.{triangle};
 ghost use Rattle.symmetric_matrix.specs.Symmetric.{entry};
-ghost use Rattle.unimodular_cone.specs.Narrow.{IsNarrowMatrix};
+ghost use Rattle.unimodular_cone.specs.Narrow.{IsNarrowMatrix, IsNarrowCopy};
 ghost use Rattle.unimodular_cone.specs.RootNumbers.{IsLowerOf, IsRowCopied};
 
 use crate::place::place_of;
@@ -56,4 +57,27 @@ pub fn narrow_lower_of(q: &SymInt) -> [i64; 36]
         copy_row(q, row, &mut lower);
     }
     lower
+}
+
+/// How many entries a lower triangle of n rows has.
+pub fn entries_of(n: u8) -> usize
+    requires { n ≤ 8 }
+    ensures { result ≡ triangle n }
+{
+    usize::from(n) * (usize::from(n) + 1) / 2
+}
+
+/// The first entries in 64 bits, with zeros behind them. None where one of them is not narrow.
+pub fn narrow_copies(from: &[i128; 36], count: usize) -> Option<[i64; 36]>
+    requires { count ≤ 36 }
+    ensures { IfSome result (IsNarrowCopy count from.now) }
+{
+    let mut into = [0; 36];
+    for k in 0..count {
+        if from[k].unsigned_abs() > 1 << 59 {
+            return None;
+        }
+        into[k] = from[k] as i64;
+    }
+    Some(into)
 }

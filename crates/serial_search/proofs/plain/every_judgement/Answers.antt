@@ -4,7 +4,8 @@ use Rattle.symmetric_matrix.specs.Symmetric.{entry}
 use Rattle.search_core.specs.Judging.{shown_code, IsJudgementOf}
 use Rattle.serial_search.specs.Turns.{AreStacked}
 use Rattle.serial_search.proofs.Tops.{AreDeep, may_turn, deep_turned}
-use Rattle.serial_search.proofs.Stacks.{cones_left, IsSearchedPlainly, no_items, plain_starts, plain_step, plain_ends, plain_within}
+use Rattle.serial_search.specs.Searching.{IsSearchedPlainly}
+use Rattle.serial_search.proofs.Stacks.{cones_left, no_items, plain_starts, plain_step, plain_ends, plain_within}
 use Rattle.serial_search.proofs.plain.every_judgement.Goals as goal
 
 pub loop-mode-init : goal.loop-mode-init

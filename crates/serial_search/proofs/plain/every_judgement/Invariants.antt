@@ -1,6 +1,7 @@
 use Rattle.std.specs.Prelude.{◌≤◌}
 use Rattle.symmetric_matrix.specs.Symmetric.{entry}
-use Rattle.serial_search.proofs.Stacks.{IsSearchedPlainly, cones_left}
+use Rattle.serial_search.specs.Searching.{IsSearchedPlainly}
+use Rattle.serial_search.proofs.Stacks.{cones_left}
 use Rattle.serial_search.proofs.Tops.{AreDeep}
 use Rattle.serial_search.proofs.plain.every_judgement.Given as goal
 

@@ -1,4 +1,4 @@
-use Rattle.std.specs.Prelude.{◌<◌}
+use Rattle.std.specs.Prelude.{◌<◌, []}
 use Rattle.std.proofs.Common.{arith}
 use Rattle.search_core.specs.Noting.{new_after}
 use Rattle.serial_search.proofs.Stacks.{cones_left, no_items}
@@ -35,7 +35,7 @@ turn-requires-clause-may c = loop_may_turn c.loop-mode.invariant.loop c.top-cone
     c.lowering_fate-fate.ensures.fate
 
 step : (c : goal.After-after-fresh)
-    → IsSearchLoop c.args.mode c.args.q.now c.args.limit c.turn.new.arena c.lowering_fate-fate.new.word (new_after c.lowering_fate-fate.result)
+    → IsSearchLoop c.args.mode c.args.q.now c.args.limit [] c.turn.new.arena c.lowering_fate-fate.new.word (new_after c.lowering_fate-fate.result)
     c.keep_fate.new.judged.items c.note_new.new.found.keys
     × (cones_left c.args.limit c.turn.new.arena.cones < cones_left c.args.limit c.loop-mode.arena.cones)
 step c = loop_turns c.loop-mode.invariant.loop c.top-cone.ensures.top.0 _ c.top-cone.ensures.top.1 _ _ _ _ _ c.n-n.ensures.matrix.positive c.requires.limited

@@ -1,4 +1,4 @@
-use Rattle.std.specs.Prelude.{◌≡◌, ◌≤◌, ◌+◌, ◌^◌, ℕ, nat_abs}
+use Rattle.std.specs.Prelude.{◌≡◌, ◌≤◌, ◌+◌, ◌^◌, nat_abs}
 use Rattle.std.specs.Int.{w128}
 use Rattle.std.proofs.Common.{arith, sym, to_z, of_z}
 use Rattle.unimodular_cone.specs.Shown.{shown_gram}

@@ -26,7 +26,6 @@ use denote.Memory.{mem, cell_at, part_of}
 use denote.Param.{layout}
 use denote.RawPtr.{Ptr, block_ptr, in_a_block}
 use denote.Ref.{MutBor, MutRef}
-use denote.Builtin.{RefMutOf}
 use denote.Signature.{plain, mut_ref_to}
 use denote.Steps.{nothing, opens}
 use denote.Triple.Clauses.{Clauses, Ended}
@@ -47,7 +46,7 @@ use Rattle.core.proofs.mem.Param.{El, R, args, el_x}
 use Rattle.core.proofs.ptr.Rows.{times_below}
 use Rattle.circular_buffer.specs.Places.{somes, IsRun}
 use Rattle.circular_buffer.specs.Ownership.{slots, cells_own}
-use Rattle.cone_arena.proofs.Memory.{Cr, Bs, Mark, sz, Place, word_had, Around, run_out, run_in, to_cells, of_cells}
+use Rattle.cone_arena.proofs.Memory.{Cr, Bs, Mark, sz, Place, Around, run_out, run_in, to_cells, of_cells}
 use types.SemTy.{cells}
 use denote.Array.{Array}
 use denote.Slice.{MutSlice, slice_val}

@@ -1,7 +1,6 @@
 -- `write` fills an empty place. Assumes `Logic`.
 use mathlib.Core.Path.{◌≡◌, refl, sym, subst, ◌∙◌}
 use Prim.Native.Nat.{ℕ, ◌+◌, ◌*◌, ◌<◌, ◌^◌}
-use native.Mathlib.Omega.{arith}
 use mathlib.Core.List.{List, [], ◌∷◌, ◌++◌}
 use seplogic.Ra.Ura.{Ura}
 use base.Fraction.{full_share}
@@ -14,7 +13,7 @@ use prog.Wp.{Env, Calls, Loops, WpFn}
 use types.Logic.{Logic}
 use contract.Monad.{fact}
 use contract.Running.{tables}
-use types.Kit.{Item, ⋆, ‵, ◌⊛◌, at_ret, ◌$◌, ◌∵◌, !, qed, by, move, keep, use1, use2, split, join, rewrite, fsplit, fsplit3, fjoin, fjoin3, feq_i, feq_l}
+use types.Kit.{Item, ⋆, ‵, ◌⊛◌, at_ret, ◌$◌, ◌∵◌, !, qed, by, move, keep, use1, use2, split, join, rewrite, fsplit, fjoin, fjoin3, feq_i}
 use types.Kit.{suffices, frame, done}
 use types.Part.{whole, sub}
 use types.Run.{init, stop, fld, unit_lit, of_opd, assigns_last, first, blocks, exec, returns, enter}
@@ -26,12 +25,12 @@ use denote.Memory.{mem}
 use denote.Param.{layout}
 use denote.RawPtr.{Ptr, in_a_block}
 use denote.Ref.{MutBor, MutRef}
-use denote.Builtin.{RefMutOf, unit}
+use denote.Builtin.{unit}
 use denote.Signature.{plain}
 use denote.Steps.{nothing, opens, closes}
 use denote.Triple.Clauses.{Clauses, Ended}
 use denote.Triple.Entry.{on_entry}
-use denote.Triple.Walked.{says, needs, Stays, stay_dropped, stay_ref, walk_of, ends_at, Goes-dropped, Goes-ref}
+use denote.Triple.Walked.{says, needs, Stays, stay_ref, walk_of, ends_at, Goes-dropped, Goes-ref}
 use Rattle.std_alloc.proofs.VecSteps.Shapes.{after}
 use Rattle.std_alloc.proofs.RcSteps.{Good, word, word-Good}
 use lib.ListN.{length, set, get_or, length-set}
@@ -43,7 +42,7 @@ use Rattle.std.specs.Prelude.{Some, None}
 use Rattle.core.proofs.mem.Param.{El, R, args, elτ}
 use Rattle.std_alloc.proofs.RawLayout.{as_written}
 use Rattle.circular_buffer.specs.Ownership.{slot, slots, cells_own}
-use Rattle.cone_arena.proofs.Memory.{Cr, Bs, sz, size_fits, offset_fits, Place, word_had, value_in, tells, Besides, slot_out, slot_in}
+use Rattle.cone_arena.proofs.Memory.{Cr, Bs, sz, size_fits, offset_fits, Place, value_in, tells, Besides, slot_out, slot_in}
 use Rattle.cone_arena.proofs.Walks.{method, stays, all_go, proved_beside, handed}
 use Rattle.cone_arena.specs.contracts.cells.Cells.write.Key.{name as #self}
 use Rattle.cone_arena.proofs.cells.Cells.write.Statement as stated

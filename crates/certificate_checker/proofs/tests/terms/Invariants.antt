@@ -1,6 +1,0 @@
-use Rattle.std.proofs.Common.{◌≡◌, length}
-use Rattle.std.specs.List.{All}
-use Rattle.certificate_checker.proofs.tests.terms.Given as goal
-
-abbrev pub invariant-loop-row : goal.invariant-loop-row
-invariant-loop-row l = All (λ term. length term.vector ≡ 2) l.terms

@@ -1,6 +1,0 @@
-use Rattle.symmetric_matrix.specs.Symmetric.{entry}
-use Rattle.unimodular_cone.proofs.ShownAt.{root_fits}
-use Rattle.cone_pool.proofs.tests.root_fits.Goals as goal
-
-pub returns-in-Ok : goal.returns-in-Ok
-returns-in-Ok c h = root_fits c.args.q.now.size (entry c.args.q.now) c.in-Ok.field-0 c.in-Ok.ensures.made c.in-Ok.ensures.fits

@@ -1,0 +1,3 @@
+pub mod PlaceExamples
+pub mod PerfectExamples
+pub mod RayExamples
