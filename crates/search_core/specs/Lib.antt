@@ -6,6 +6,7 @@ pub mod Machine
 pub mod Events
 pub mod Scans
 pub mod Attaining
+pub mod KeySets
 pub mod Ends
 pub mod Theorems
 pub mod Kept

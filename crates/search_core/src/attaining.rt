@@ -6,20 +6,17 @@ ghost use Rattle.unimodular_cone.specs.Cones.{unit_vectors, Fits};
 ghost use Rattle.unimodular_cone.specs.Tree.{IsInTree};
 ghost use Rattle.unimodular_cone.specs.Answer.{IsListOf};
 ghost use Rattle.unimodular_cone.specs.Shown.{IsConeAt, IsWithinLimits, shown_generators};
-ghost use Rattle.search_core.specs.Attaining.{IsKeyOf, IsWithKey, AddsAttaining, HasGenerators, AreKeys, IsVectorsOf, ListsGenerators};
+ghost use Rattle.search_core.specs.Attaining.{IsKeyOf, AddsAttaining, HasGenerators, AreKeys, IsVectorsOf, ListsGenerators};
 ghost use Rattle.search_core.specs.Scans.{AreInTree};
 ghost use Rattle.search_core.specs.Way.{AreAtPaths, AddsAttainingAt};
 
 use crate::descent::{fitting_root, step_down};
 use crate::fate::Judged;
+use crate::key_set::{Key, KeySet};
 use crate::way::go_to;
 use std::alloc::{AllocError, Global};
-use std::collections::BTreeSet;
 use symmetric_matrix::{IntVector, SymInt, VectorList};
 use unimodular_cone::{Cone, ConeRead, Path};
-
-/// A generator's coordinates, with zeros past them, so that keys are in the vectors' order.
-pub type Key = [u64; 8];
 
 /// The key of a generator that counts from 1.
 pub(crate) fn key_of<C: ConeRead>(c: &C, k: u8) -> Key
@@ -55,19 +52,11 @@ pub(crate) fn generator<C: ConeRead>(alloc: Global, c: &C, k: u8) -> IntVector
     vector_of(alloc, c.n(), &key_of(c, k))
 }
 
-/// Puts a key into a set.
-pub(crate) fn add_key(found: &mut BTreeSet<Key>, key: Key) -> Result<(), AllocError>
-    ensures { OnOk result (IsWithKey found.old.keys key found.new.keys) }
-{
-    found.insert(key)?;
-    Ok(())
-}
-
 /// Puts the keys of a cone's generators of this value into a set.
 pub(crate) fn add_attaining<C: ConeRead>(
     c: &C,
     minimum: u64,
-    found: &mut BTreeSet<Key>,
+    found: &mut KeySet,
 ) -> Result<(), AllocError>
     ensures { OnOk result
         (AddsAttaining (C.cone c.now) (C.cone c.now).size (pos minimum) found.old.keys found.new.keys) }
@@ -75,7 +64,7 @@ pub(crate) fn add_attaining<C: ConeRead>(
     let n = c.n();
     for k in 0..n {
         if c.gram(k + 1, k + 1) == i128::from(minimum) {
-            add_key(found, key_of(c, k + 1))?;
+            found.insert(key_of(c, k + 1))?;
         }
     }
     Ok(())
@@ -88,7 +77,7 @@ fn add_attaining_at(
     limit: u8,
     path: &Path,
     minimum: u64,
-    found: &mut BTreeSet<Key>,
+    found: &mut KeySet,
 ) -> Result<(), AllocError>
     requires in_tree { IsInTree q.now.size (entry q.now) limit path.now }
     requires fits { Fits q.now.size (entry q.now) unit_vectors }
@@ -121,12 +110,12 @@ fn keys_attaining(
     limit: u8,
     judged: &[Judged],
     minimum: u64,
-) -> Result<BTreeSet<Key>, AllocError>
+) -> Result<KeySet, AllocError>
     requires in_tree { AreInTree q.now.size (entry q.now) limit judged.now }
     requires fits { Fits q.now.size (entry q.now) unit_vectors }
     ensures { IfOk result (λ found. HasGenerators q.now.size (entry q.now) judged.now (pos minimum) found.keys) }
 {
-    let mut found: BTreeSet<Key> = BTreeSet::new(alloc);
+    let mut found = KeySet::new(alloc);
     let mut way = Vec::new(alloc);
     for j in judged {
         if j.least == i128::from(minimum) {
@@ -137,14 +126,14 @@ fn keys_attaining(
 }
 
 /// The vectors of a set of keys, in its order.
-pub(crate) fn listed(alloc: Global, n: u8, keys: BTreeSet<Key>) -> Result<VectorList, AllocError>
+pub(crate) fn listed(alloc: Global, n: u8, keys: KeySet) -> Result<VectorList, AllocError>
     requires some { 1 ≤ n }
     requires few { n ≤ 8 }
     requires keys { AreKeys n keys.keys }
     ensures { IfOk result (IsVectorsOf n keys.keys) }
 {
     let mut list = VectorList::new(alloc);
-    let mut rest = keys;
+    let mut rest = keys.into_set();
     while let Some(key) = rest.pop_first() {
         list.push(&vector_of(alloc, n, &key))?;
     }

@@ -9,6 +9,7 @@ mod fate;
 mod hand;
 mod judging;
 mod keeping;
+mod key_set;
 mod law;
 mod lowering;
 mod machine;
@@ -24,11 +25,11 @@ mod way;
 mod words;
 
 pub use answer::{Least, Sign};
-pub use attaining::Key;
 pub use event::{Event, Stepped};
 pub use fate::{Fate, Judged};
 pub use judging::{judge, judgement};
 pub use keeping::keep_fate;
+pub use key_set::{Key, KeySet};
 pub use law::{
     at_most_one_fate, code_is_of_the_path, every_run_is_fair, fate_is_of_the_path, runs_are_fair,
 };

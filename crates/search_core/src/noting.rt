@@ -7,10 +7,10 @@
 ghost use Rattle.std.specs.Prelude.{◌≡◌, pos, OnOk};
 ghost use Rattle.search_core.specs.Noting.{NamesNew, new_after, AddsNew, AreRemembered, AddsToNoted};
 
-use crate::attaining::{Key, add_attaining, add_key, key_of};
+use crate::attaining::{add_attaining, key_of};
 use crate::fate::Fate;
+use crate::key_set::KeySet;
 use std::alloc::AllocError;
-use std::collections::BTreeSet;
 use unimodular_cone::{ConeRead, ConeTests};
 
 /// Which generators of a cone no cone that was judged before it has.
@@ -43,7 +43,7 @@ fn add_new<C: ConeRead>(
     c: &C,
     fresh: NewGenerators,
     value: u64,
-    found: &mut BTreeSet<Key>,
+    found: &mut KeySet,
 ) -> Result<(), AllocError>
     requires { NamesNew (C.cone c.now).size fresh }
     ensures { OnOk result (AddsNew (C.cone c.now) fresh (pos value) found.old.keys found.new.keys) }
@@ -51,7 +51,7 @@ fn add_new<C: ConeRead>(
     match fresh {
         NewGenerators::Each => add_attaining(c, value, found),
         NewGenerators::One { which } if c.gram(which, which) == i128::from(value) => {
-            add_key(found, key_of(c, which))
+            found.insert(key_of(c, which))
         }
         NewGenerators::One { .. } | NewGenerators::NoOne => Ok(()),
     }
@@ -59,7 +59,7 @@ fn add_new<C: ConeRead>(
 
 /// Forgets the keys that were noted under the word before, where the word has fallen.
 #[inline(always)]
-fn forget_fallen(found: &mut BTreeSet<Key>, before: u64, word: u64)
+fn forget_fallen(found: &mut KeySet, before: u64, word: u64)
     ensures { AreRemembered before word found.old.keys found.new.keys }
 {
     if word < before {
@@ -71,7 +71,7 @@ fn forget_fallen(found: &mut BTreeSet<Key>, before: u64, word: u64)
 /// this cone, those that were noted under the word before are forgotten first.
 #[inline(always)]
 pub fn note_new<C: ConeTests>(
-    found: &mut BTreeSet<Key>,
+    found: &mut KeySet,
     c: &C,
     fresh: NewGenerators,
     before: u64,

@@ -10,12 +10,12 @@ ghost use Rattle.search_core.specs.Ends.{IsEndOf, NamesEnd};
 ghost use Rattle.search_core.specs.Noting.{IsFairNoted};
 
 use crate::answer::{Least, Sign};
-use crate::attaining::{Key, attaining, fitting_cone, generator, listed};
+use crate::attaining::{attaining, fitting_cone, generator, listed};
 use crate::fate::{Fate, Judged};
+use crate::key_set::KeySet;
 use crate::scan::{first_low, first_open};
 use crate::words::bound_under;
 use std::alloc::Global;
-use std::collections::BTreeSet;
 use symmetric_matrix::{IntVector, SymInt};
 use unimodular_cone::{ConeRead, Mode, Path, WideAt};
 
@@ -154,7 +154,7 @@ pub fn settle_least_noted(
     q: &SymInt,
     limit: u8,
     judged: &[Judged],
-    noted: BTreeSet<Key>,
+    noted: KeySet,
     final_word: u64,
 ) -> Least
     requires part { IsFairNoted Mode.Least q.now.size (entry q.now) limit judged.now noted.keys final_word }

@@ -11,11 +11,10 @@ ghost use Rattle.serial_search.specs.Turns.{MayTurn, IsTurnOf, IsRootAlone};
 
 use cone_arena::ConeArena;
 use search_core::{
-    Fate, Judged, Key, Least, NewGenerators, Sign, keep_fate, lowering_fate, note_new,
+    Fate, Judged, KeySet, Least, NewGenerators, Sign, keep_fate, lowering_fate, note_new,
     settle_least_noted, settle_sign_part, start_word,
 };
 use std::alloc::{AllocError, Global};
-use std::collections::BTreeSet;
 use symmetric_matrix::SymInt;
 use unimodular_cone::Mode;
 
@@ -25,7 +24,7 @@ pub struct Judgements {
     /// The judgements of low cones, and the ends of the tree.
     pub judged: Vec<Judged>,
     /// The keys of the generators that attain the final bound, where the final word is over 256.
-    pub attaining: BTreeSet<Key>,
+    pub attaining: KeySet,
     /// The word after all of them.
     pub final_word: u64,
 }
@@ -39,7 +38,7 @@ impl Judgements {
     {
         Judgements {
             judged: Vec::new(alloc),
-            attaining: BTreeSet::new(alloc),
+            attaining: KeySet::new(alloc),
             final_word: word,
         }
     }
@@ -75,7 +74,7 @@ pub fn search(
 {
     let _n = q.n();
     let mut judged = Vec::new(alloc);
-    let mut attaining = BTreeSet::new(alloc);
+    let mut attaining = KeySet::new(alloc);
     let mut word = start_word(mode, q);
     let mut fresh = NewGenerators::Each;
     while arena.len() > 0 {

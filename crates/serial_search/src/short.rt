@@ -10,11 +10,10 @@ ghost use Rattle.serial_search.specs.Turns.{IsRootAlone};
 use crate::search::{Judgements, settled_least, settled_sign, turn};
 use cone_arena::ConeArena;
 use search_core::{
-    Least, NewGenerators, Sign, keep_fate, lowering_fate, note_new, settle_least_noted,
+    KeySet, Least, NewGenerators, Sign, keep_fate, lowering_fate, note_new, settle_least_noted,
     settle_sign_part, start_word,
 };
 use std::alloc::{AllocError, Global};
-use std::collections::BTreeSet;
 use symmetric_matrix::SymInt;
 use unimodular_cone::Mode;
 
@@ -37,7 +36,7 @@ fn search_in_turns(
 {
     let _n = q.n();
     let mut judged = Vec::new(alloc);
-    let mut attaining = BTreeSet::new(alloc);
+    let mut attaining = KeySet::new(alloc);
     let mut word = start_word(mode, q);
     let mut fresh = NewGenerators::Each;
     for _ in 0..turns {

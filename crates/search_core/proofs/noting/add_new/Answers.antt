@@ -16,6 +16,6 @@ returns-in-One g c =
     let second : FitsSigned w128 c.from.result = omega (arith, ints) in
     let value : shown_gram cone (c.in-One.which - 1) (c.in-One.which - 1) ≡ pos c.args.value =
     sym c.gram.ensures ∙ same_when_read c.gram.result c.from.result first second c.if-gram-from.true ∙ c.from.ensures in
-    subst (λ (f : NewGenerators). OnOk c.add_key.result (AddsNew cone f (pos c.args.value) c.args.found.now.keys c.add_key.new.found.keys)) (sym c.in-One.is)
-    (on_ok c.add_key.result (one_new cone c.in-One.which (pos c.args.value) c.args.found.now.keys c.add_key.new.found.keys c.key_of.result named value
-    c.key_of.ensures.key) c.add_key.ensures)
+    subst (λ (f : NewGenerators). OnOk c.insert.result (AddsNew cone f (pos c.args.value) c.args.found.now.keys c.insert.new.self.keys)) (sym c.in-One.is)
+    (on_ok c.insert.result (one_new cone c.in-One.which (pos c.args.value) c.args.found.now.keys c.insert.new.self.keys c.key_of.result named value
+    c.key_of.ensures.key) c.insert.ensures)

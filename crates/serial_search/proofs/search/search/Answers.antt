@@ -8,7 +8,7 @@ use Rattle.serial_search.proofs.search.search.Goals as goal
 pub loop-mode-init : goal.loop-mode-init
 loop-mode-init c =
     record {
-      loop = rw (c.start_word-word.ensures, c.new-judged.ensures.items, c.new-attaining.ensures.empty)
+      loop = rw (c.start_word-word.ensures, c.new-judged.ensures.items, c.new-attaining.ensures)
           (loop_starts _ c.args.q.now _ c.args.arena.now c.requires.root c.requires.room);
     }
 

@@ -6,7 +6,7 @@ use Rattle.serial_search.proofs.short.search_in_turns.Goals as goal
 pub loop-init : goal.loop-init
 loop-init c =
     record {
-      loop = rw (c.start_word-word.ensures, c.new-judged.ensures.items, c.new-attaining.ensures.empty)
+      loop = rw (c.start_word-word.ensures, c.new-judged.ensures.items, c.new-attaining.ensures)
           (loop_starts _ c.args.q.now _ c.args.arena.now c.requires.root c.requires.room);
     }
 
