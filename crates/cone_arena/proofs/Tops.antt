@@ -1,12 +1,12 @@
 -- The top of a list of cones, and the list after a split.
 use Rattle.std.specs.Prelude.{◌≡◌, ℕ, ◌<◌, ◌≤◌, ◌+◌, ◌-◌, true, false, List, [], ◌∷◌, ◌++◌, All, length, take, slice_index_or, slice_set}
-use Rattle.std.proofs.Common.{arith, sym, ◌∙◌, ap, subst, length-append, length-take, take-take}
-use Rattle.std.proofs.Math.Seq.{get_or-append_seam, take-append_seam}
-use Rattle.std.proofs.lemmas.List.{take_more, append_assoc, get_or-take, set-get_or, length-take-le}
-use Rattle.std.proofs.lemmas.List.Elements.{All-push, All-take}
+use Rattle.std.proofs.Common.{arith, sym, ◌∙◌, ap, refl, subst, length-append, length-take, take-take}
+use Rattle.std.proofs.Math.Seq.{get_or-append_seam}
+use Rattle.std.proofs.lemmas.List.{take_more, get_or-take, length-take-le}
+use Rattle.std.proofs.lemmas.List.Elements.{All-append, All-nil, All-push, All-take}
 use Rattle.unimodular_cone.specs.Shown.{ShownCone, IsChild}
 use Rattle.unimodular_cone.proofs.Tops.{set_parts, take_pair}
-use Rattle.cone_arena.specs.Arena.{ShownArena, IsArena, IsTopOf, MaySplit, TopFits}
+use Rattle.cone_arena.specs.Arena.{ShownArena, IsArena, IsOnTop, IsTopOf, MaySplit, TopFits}
 use Rattle.cone_arena.specs.SplitRows.{IsSplittableAt, AreRowsSplit, IsTopRowSplit}
 
 -- lists that agree up to a row
@@ -18,10 +18,10 @@ pub same_below : (a b : List ShownCone) (top : ℕ) → take (top + 1) a ≡ tak
 same_below a b top e = sym (take-take top (top + 1) a (omega arith)) ∙ ap (take top) e ∙ take-take top (top + 1) b (omega arith)
 
 -- what was taken is there
-pub two_counted : (old new : List ShownCone) (top : ℕ) (second first : ShownCone) → top ≤ length old → take (top + 2) new ≡ take top old ++ second ∷ first ∷ []
-    → top + 2 ≤ length new
-two_counted old new top second first inside e =
-    omega (arith, ap length e, length-take (top + 2) new, length-append (take top old) (second ∷ first ∷ []), length-take top old)
+pub counted_after : (old new made : List ShownCone) (top m : ℕ) → top ≤ length old → length made ≡ m → take (top + m) new ≡ take top old ++ made
+    → top + m ≤ length new
+counted_after old new made top m inside l e =
+    omega (arith, l, ap length e, length-take (top + m) new, length-append (take top old) made, length-take top old)
 
 pub top_of_rows : (rows : List ShownCone) (len : ℕ) (c : ShownCone) → 0 < len → len ≤ length rows → c ≡ slice_index_or rows (len - 1) c
     → take len rows ≡ take (len - 1) rows ++ c ∷ []
@@ -35,25 +35,8 @@ top_size n cones rest c all e =
     ap (λ (d : ShownCone). d.size) (sym (get_or-append_seam rest c [] c) ∙ ap (λ (s : List ShownCone). slice_index_or s (length rest) c) (sym e))
     ∙ all (length rest) c (omega arith)
 
-pub sizes_after : (n : ℕ) (cones rest : List ShownCone) (c second first : ShownCone) → All (λ (d : ShownCone). d.size ≡ n) cones → cones ≡ rest ++ c ∷ []
-    → second.size ≡ n → first.size ≡ n
-    → All (λ (d : ShownCone). d.size ≡ n) (rest ++ second ∷ first ∷ [])
-sizes_after n cones rest c second first all e s f =
-    let is : take (length rest) cones ≡ rest = ap (take (length rest)) e ∙ take-append_seam rest (c ∷ []) in
-    let below : All (λ (d : ShownCone). d.size ≡ n) rest =
-    subst (All (λ (d : ShownCone). d.size ≡ n)) is (All-take (λ (d : ShownCone). d.size ≡ n) (length rest) cones all) in
-    subst (All (λ (d : ShownCone). d.size ≡ n)) (append_assoc rest (second ∷ []) (first ∷ []))
-    (All-push (λ (d : ShownCone). d.size ≡ n) (rest ++ second ∷ []) first (All-push (λ (d : ShownCone). d.size ≡ n) rest second below s) f)
-
--- a row of the front part is set to what it is, and the first of the back part to something
-pub front_kept : (all below above : List ShownCone) (top : ℕ) (same first : ShownCone) → all ≡ below ++ above → length below ≡ top + 1
-    → same ≡ slice_index_or below top same
-    → take (top + 1) (slice_set below top same ++ slice_set above 0 first) ≡ take (top + 1) all
-front_kept all below above top same first e l is =
-    let back : slice_set below top same ≡ below = ap (slice_set below top) is ∙ set-get_or below top same in
-    ap (λ (s : List ShownCone). take (top + 1) (s ++ slice_set above 0 first)) back
-    ∙ ap (λ (k : ℕ). take k (below ++ slice_set above 0 first)) (sym l) ∙ take-append_seam below (slice_set above 0 first)
-    ∙ sym (take-append_seam below above) ∙ ap (λ (k : ℕ). take k (below ++ above)) l ∙ ap (take (top + 1)) (sym e)
+pub all_two : (P : ShownCone → Type 0) (a b : ShownCone) → P a → P b → All P (a ∷ b ∷ [])
+all_two P a b p q = All-push P (a ∷ []) b (All-push P [] a (All-nil P) p) q
 
 -- ---- a row and the next one, split
 pub rows_split : (old below above : List ShownCone) (top i j : ℕ) (was second first : ShownCone) → old ≡ below ++ above → below ≡ take (top + 1) old
@@ -85,7 +68,7 @@ top_split old xs split new top i j agree inside h e = record {
 }
 
 -- ---- an arena whose cones are the first of its rows, and which shows so many of such a size
-abbrev shows : ℕ → ℕ → ℕ → List ShownCone → ShownArena
+abbrev pub shows : ℕ → ℕ → ℕ → List ShownCone → ShownArena
 shows n depth len rows = record { size = n; depth = depth; cones = take len rows }
 
 module _ (n depth len : ℕ) (rows : List ShownCone) (seen : ShownArena) (i j : ℕ) (view : shows n depth len rows ≡ seen)
@@ -99,39 +82,52 @@ module _ (n depth len : ℕ) (rows : List ShownCone) (seen : ShownArena) (i j : 
   cones_are : take len rows ≡ seen.cones
   cones_are = ap (λ (a : ShownArena). a.cones) view
 
-  count : length seen.cones ≡ len
+  pub count : length seen.cones ≡ len
   count = ap length (sym cones_are) ∙ length-take-le len rows counted
 
   top_is : (d : ShownCone) → d ≡ slice_index_or rows (len - 1) d → take len rows ≡ take (len - 1) rows ++ d ∷ []
   top_is d is = top_of_rows rows len d (omega (arith, can.some, count)) counted is
 
+  pub top_shown : (d : ShownCone) → d ≡ slice_index_or rows (len - 1) d → IsOnTop d (take (len - 1) rows) seen.cones
+  top_shown d is = sym cones_are ∙ top_is d is
+
+  pub top_sized : (d : ShownCone) → d ≡ slice_index_or rows (len - 1) d → d.size ≡ n
+  top_sized d is = top_size n _ _ d arena.sizes (top_is d is)
+
   pub top_splittable : TopFits seen i j → IsSplittableAt rows (len - 1) i j
   top_splittable fits d is =
-      let top : IsTopOf seen d = (take (len - 1) rows, sym cones_are ∙ top_is d is) in
-      let same : d.size ≡ n = top_size n _ _ d arena.sizes (top_is d is) in
+      let top : IsTopOf seen d = (take (len - 1) rows, top_shown d is) in
       record {
         first = can.first;
         order = can.order;
-        last = omega (arith, can.last, size_is, same);
+        last = omega (arith, can.last, size_is, top_sized d is);
         short = let s : length d.path < seen.depth = can.short d top in omega (arith, s, depth_is, arena.shallow);
         fits = fits d top;
       }
 
-  pub arena_split : (new : List ShownCone) → IsTopRowSplit rows (len - 1) i j new → IsArena (shows n depth (len + 1) new) × (len + 1 ≤ length new)
-  arena_split new h =
-      let some : 0 < len = omega (arith, can.some, count) in
-      let on = top_is h.was h.stood in
-      let size : h.was.size ≡ n = top_size n _ _ h.was arena.sizes on in
-      let more : len - 1 + 2 ≡ len + 1 = omega arith in
-      let cones : take (len + 1) new ≡ take (len - 1) rows ++ h.second ∷ h.first ∷ [] = ap (λ (k : ℕ). take k new) (sym more) ∙ h.cones in
-      let long : len + 1 ≤ length new = omega (arith, more, two_counted rows new (len - 1) h.second h.first (omega (arith, counted)) h.cones) in (
+  -- at most two cones of the size in the place of the top
+  pub arena_after : (new made : List ShownCone) (m : ℕ) → length made ≡ m → m ≤ 2 → All (λ (d : ShownCone). d.size ≡ n) made
+      → take (len - 1 + m) new ≡ take (len - 1) rows ++ made
+      → IsArena (shows n depth (len - 1 + m) new) × (len - 1 + m ≤ length new)
+  arena_after new made m l few all cones =
+      let sized = λ (d : ShownCone). d.size ≡ n in
+      let long : len - 1 + m ≤ length new = counted_after rows new made (len - 1) m (omega (arith, counted)) l cones in
+      let below : All sized (take (len - 1) rows) =
+      subst (All sized) (take-take (len - 1) len rows (omega arith)) (All-take sized (len - 1) (take len rows) arena.sizes) in (
         record {
           some = arena.some;
           few = arena.few;
           shallow = arena.shallow;
-          room = omega (arith, length-take-le (len + 1) new long, can.room, count, depth_is);
-          sizes = subst (All (λ (d : ShownCone). d.size ≡ n)) (sym cones)
-              (sizes_after n _ _ h.was h.second h.first arena.sizes on (h.is_second.size ∙ size) (h.is_first.size ∙ size));
+          room = omega (arith, length-take-le (len - 1 + m) new long, can.some, can.room, few, count, depth_is);
+          sizes = subst (All sized) (sym cones) (All-append sized (take (len - 1) rows) made below all);
         },
         long,
       )
+
+  pub arena_split : (new : List ShownCone) → IsTopRowSplit rows (len - 1) i j new → IsArena (shows n depth (len + 1) new) × (len + 1 ≤ length new)
+  arena_split new h =
+      let more : len - 1 + 2 ≡ len + 1 = omega (arith, can.some, count) in
+      let size = top_sized h.was h.stood in
+      subst (λ (k : ℕ). IsArena (shows n depth k new) × (k ≤ length new)) more
+      (arena_after new (h.second ∷ h.first ∷ []) 2 refl (omega arith)
+      (all_two (λ (d : ShownCone). d.size ≡ n) h.second h.first (h.is_second.size ∙ size) (h.is_first.size ∙ size)) h.cones)

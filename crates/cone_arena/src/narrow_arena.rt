@@ -1,13 +1,14 @@
 //! A list of narrow cones in one block of memory.
 
-ghost use Rattle.std.specs.Prelude.{◌≡◌, ◌≤◌, ◌<◌, ◌+◌, ◌-◌, [], ◌∷◌, true, false, length, take, IfOk, IsTrue};
+ghost use Rattle.std.specs.Prelude.{◌≡◌, ◌≤◌, ◌<◌, ◌+◌, [], ◌∷◌, length, take, pos, None, IfOk, IfSome};
 ghost use Rattle.std.specs.Vec.{vec_capacity};
-ghost use Rattle.cone_arena.specs.Arena.{MaySplit, TopFits, IsTopReplaced, IsTopOf, IsDropped};
-ghost use Rattle.cone_arena.specs.SplitRows.{IsSplittableAt, AreRowsSplit, IsTopRowSplit};
+ghost use Rattle.cone_arena.specs.Arena.{MaySplit, TopFits, IsTopOf, IsDropped};
+ghost use Rattle.cone_arena.specs.OpenTops.{IsTopOpened, AreRowsOpened};
+ghost use Rattle.cone_arena.specs.SplitRows.{IsSplittableAt};
 
 use std::alloc::{AllocError, Global};
 use std::marker::Model;
-use unimodular_cone::{ConeRead, NarrowCone};
+use unimodular_cone::{ConeRead, NarrowCone, OpenChildren, SlackCone};
 
 /// Narrow cones of n generators each, one above the other, in one block of memory with room for two more than a depth.
 ///
@@ -18,7 +19,7 @@ pub struct NarrowArena {
     depth: u8,
     len: usize,
     // The cones that count, and above them rows that stood there before and are written over.
-    rows: Vec<NarrowCone>,
+    rows: Vec<SlackCone>,
 }
 
 impl Model for NarrowArena {
@@ -59,24 +60,27 @@ impl NarrowArena {
         ensures depth { self.new.depth ≡ self.old.depth }
         ensures alone { self.new.cones ≡ cone ∷ [] }
     {
-        put_first(&mut self.rows, cone);
+        put_first(&mut self.rows, SlackCone::of(cone));
         self.len = 1;
     }
 
-    /// Replaces the top, whose children fit, by its child 1 on the sides of the generators i and j, which count from 1, and
-    /// puts its child 0 above, where both are narrow. Answers whether they are; where not, the list is as before.
+    /// Splits the top, whose children fit, on the sides of the generators i and j, which count from 1, where both children are
+    /// narrow. Both take its place, child 0 above, where the mediant's value is at most the bound, else each that is not closed at
+    /// the bound. Answers which are made. None where a child is not narrow, and the list is as before.
     #[inline(always)]
-    pub fn split_fitting(&mut self, i: u8, j: u8) -> bool
+    pub fn split_open(&mut self, i: u8, j: u8, bound: u64) -> Option<OpenChildren>
         requires can { MaySplit self.old i j }
         requires fits { TopFits self.old i j }
-        ensures made { IsTrue result → IsTopReplaced self.old i j self.new }
-        ensures kept { result ≡ false → self.new ≡ self.old }
+        ensures opened { IfSome result (λ made. IsTopOpened self.old i j (pos bound) made self.new) }
+        ensures kept { result ≡ None → self.new ≡ self.old }
     {
-        if !split_in(&mut self.rows, self.len - 1, i, j) {
-            return false;
+        let made = open_in(&mut self.rows, self.len - 1, i, j, bound)?;
+        match made {
+            OpenChildren::Within | OpenChildren::Both => self.len += 1,
+            OpenChildren::First | OpenChildren::Second => {}
+            OpenChildren::Neither => self.len -= 1,
         }
-        self.len += 1;
-        true
+        Some(made)
     }
 
     /// Takes the top away.
@@ -98,7 +102,7 @@ impl NarrowArena {
 
     /// The last cone, where it stands.
     #[inline(always)]
-    pub fn top(&self) -> &NarrowCone
+    pub fn top(&self) -> &SlackCone
         requires { 0 < length self.now.cones }
         ensures top { IsTopOf self.now result.now }
         ensures size { result.now.size ≡ self.now.size }
@@ -108,7 +112,7 @@ impl NarrowArena {
 }
 
 /// Puts a cone into the first row, whatever is in it.
-fn put_first(rows: &mut Vec<NarrowCone>, cone: NarrowCone)
+fn put_first(rows: &mut Vec<SlackCone>, cone: SlackCone)
     requires { 0 < vec_capacity rows.old }
     ensures first { take 1 rows.new.items ≡ cone ∷ [] }
     ensures capacity { vec_capacity rows.new ≡ vec_capacity rows.old }
@@ -120,25 +124,25 @@ fn put_first(rows: &mut Vec<NarrowCone>, cone: NarrowCone)
     rows[0] = cone;
 }
 
-/// Splits the cone of a row, where both children are narrow: it becomes its child 1, and the row above, whatever is in it, becomes
-/// its child 0. Answers whether they are; where not, the rows up to that one are as before.
+/// Splits the cone of a row, where both children are narrow: those that are made stand in that row and in the one above, whatever is
+/// in it. Answers which are made; None leaves the rows up to that one as before.
 #[inline(always)]
-fn split_in(rows: &mut Vec<NarrowCone>, top: usize, i: u8, j: u8) -> bool
+fn open_in(rows: &mut Vec<SlackCone>, top: usize, i: u8, j: u8, bound: u64) -> Option<OpenChildren>
     requires inside { top < length rows.old.items }
     requires above { top + 1 < vec_capacity rows.old }
     requires splits { IsSplittableAt rows.old.items top i j }
-    ensures split { IsTrue result → IsTopRowSplit rows.old.items top i j rows.new.items }
-    ensures kept { result ≡ false → take (top + 1) rows.new.items ≡ take (top + 1) rows.old.items }
+    ensures opened { IfSome result (λ made. AreRowsOpened rows.old.items top i j (pos bound) made rows.new.items) }
+    ensures kept { result ≡ None → take (top + 1) rows.new.items ≡ take (top + 1) rows.old.items }
     ensures counted { top + 1 < length rows.new.items }
     ensures capacity { vec_capacity rows.new ≡ vec_capacity rows.old }
 {
     fill_above(rows, top);
-    split_rows(rows, top, i, j)
+    open_rows(rows, top, i, j, bound)
 }
 
 /// Puts a cone, whichever, into the row above, if there is none.
 #[inline(always)]
-fn fill_above(rows: &mut Vec<NarrowCone>, top: usize)
+fn fill_above(rows: &mut Vec<SlackCone>, top: usize)
     requires inside { top < length rows.old.items }
     requires above { top + 1 < vec_capacity rows.old }
     ensures filled { top + 1 < length rows.new.items }
@@ -152,16 +156,16 @@ fn fill_above(rows: &mut Vec<NarrowCone>, top: usize)
     rows.push_reserved(cone);
 }
 
-/// Splits the cone of a row where it stands, where both children are narrow: it becomes its child 1, and the next row becomes
-/// its child 0. Answers whether they are.
+/// Splits the cone of a row where it stands, where both children are narrow: those that are made stand in that row and in the next.
+/// Answers which are made.
 #[inline(always)]
-fn split_rows(rows: &mut [NarrowCone], top: usize, i: u8, j: u8) -> bool
+fn open_rows(rows: &mut [SlackCone], top: usize, i: u8, j: u8, bound: u64) -> Option<OpenChildren>
     requires inside { top + 1 < length rows.old }
     requires splits { IsSplittableAt rows.old top i j }
-    ensures split { IsTrue result → AreRowsSplit rows.old top i j rows.new }
-    ensures kept { result ≡ false → take (top + 1) rows.new ≡ take (top + 1) rows.old }
+    ensures opened { IfSome result (λ made. AreRowsOpened rows.old top i j (pos bound) made rows.new) }
+    ensures kept { result ≡ None → take (top + 1) rows.new ≡ take (top + 1) rows.old }
     ensures count { length rows.new ≡ length rows.old }
 {
     let (below, above) = rows.split_at_mut(top + 1);
-    below[top].split_into(&mut above[0], i, j)
+    below[top].split_open(&mut above[0], i, j, bound)
 }

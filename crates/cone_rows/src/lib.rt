@@ -8,4 +8,6 @@ mod cone_tests;
 #[cfg(test)]
 mod matrix_tests;
 #[cfg(test)]
+mod narrow_arena_tests;
+#[cfg(test)]
 mod narrow_tests;

@@ -21,7 +21,13 @@ fn vector(rt: &impl Abort, alloc: Global, x: &[u64]) -> IntVector
     IntVector::from_slice(alloc, x)
 }
 
-fn matrix(rt: &impl Abort, alloc: Global, n: u8, lower: &[i128]) -> Result<SymInt, AllocError>
+/// The matrix of n rows with these entries, its lower triangle row by row.
+pub(crate) fn matrix(
+    rt: &impl Abort,
+    alloc: Global,
+    n: u8,
+    lower: &[i128],
+) -> Result<SymInt, AllocError>
     ensures { IfOk result (λ q. q ≡ record { size = n; lower = lower.now }) }
 {
     assert!(rt; n >= 1);

@@ -1,31 +1,35 @@
-//! Narrow cones of small matrices, with numbers that were worked out by hand.
+//! Narrow cones of small matrices and their children that are open at a bound, with numbers that were worked out by hand.
+//!
+//! Of each matrix `a b / b c`: the value of its mediant, a + 2b + c, child 0 with the mediant in the place of the first generator
+//! and child 1 with it in the place of the second, both by their lower triangles, and the slacks of their two generators. A child
+//! is closed at a bound where both slacks are at least the bound.
+//!
+//!     matrix    value   child 0   slacks   child 1   slacks
+//!     2 -3 6      2      2 3 6     2 6      2 -1 2    1 1
+//!     2 -3 7      3      3 4 7     3 7      2 -1 3    1 2
+//!     7 -3 2      3      3 -1 2    2 1      7 4 3     7 3
+//!     1 1 1       4      4 2 1     4 1      1 2 4     1 4
 
-ghost use Rattle.std.specs.Prelude.{◌≡◌, ◌≤◌, ◌^◌, nat_abs, IfOk};
-
+use crate::matrix_tests::matrix;
 use std::alloc::Global;
 use std::process::Abort;
 use std::test::Fail;
-use symmetric_matrix::SymInt;
-use unimodular_cone::{ConeRead, ConeTests, NarrowCone, narrow_root};
+use unimodular_cone::{ConeRead, ConeTests, OpenChildren, SlackCone, narrow_root};
 
-/// The matrix `a b / b c`.
-fn matrix(alloc: Global, a: i128, b: i128, c: i128) -> Result<SymInt, Fail>
-    requires first { nat_abs a ≤ 2 ^ 126 }
-    requires beside { nat_abs b ≤ 2 ^ 126 }
-    requires last { nat_abs c ≤ 2 ^ 126 }
-    ensures { IfOk result (λ q. q.size ≡ 2) }
-{
-    Ok(SymInt::from_lower(alloc, 2, &[a, b, c])?)
+/// The root's cone of the matrix of n rows with this lower triangle.
+fn root_of(rt: &impl Abort, alloc: Global, n: u8, lower: &[i128]) -> Result<SlackCone, Fail> {
+    let q = matrix(rt, alloc, n, lower)?;
+    Ok(SlackCone::of(narrow_root(&q).ok_or("not narrow")?))
 }
 
 /// The Gram entries of a cone of two, in lower triangle order.
-fn gram(rt: &impl Abort, c: &NarrowCone) -> [i128; 3] {
+fn gram(rt: &impl Abort, c: &SlackCone) -> [i128; 3] {
     assert_eq!(rt; c.n(), 2);
     [c.gram(1, 1), c.gram(2, 1), c.gram(2, 2)]
 }
 
 /// The generators of a cone of two, one after the other.
-fn generators(rt: &impl Abort, c: &NarrowCone) -> [u64; 4] {
+fn generators(rt: &impl Abort, c: &SlackCone) -> [u64; 4] {
     assert_eq!(rt; c.n(), 2);
     [
         c.coordinate(1, 1),
@@ -35,30 +39,29 @@ fn generators(rt: &impl Abort, c: &NarrowCone) -> [u64; 4] {
     ]
 }
 
-/// Splits a cone of two whose children fit, and gives back its child 0. None where a child is not narrow.
-fn split(rt: &impl Abort, cone: &mut NarrowCone) -> Option<NarrowCone> {
+/// Splits a cone whose children fit on the sides of its first two generators, and gives back which children are made, and the cone
+/// that stands above it then. None where a child is not narrow.
+fn split(rt: &impl Abort, cone: &mut SlackCone, bound: u64) -> Option<(OpenChildren, SlackCone)> {
     let mut above = cone.copy();
-    assert!(rt; cone.n() == 2 && cone.path().len() < 200);
+    assert!(rt; cone.n() >= 2 && cone.path().len() < 200);
     match cone.children_fit(1, 2) {
         Some(_) => panic!(rt; "over a limit"),
         None => {
-            if cone.split_into(&mut above, 1, 2) {
-                Some(above)
-            } else {
-                None
-            }
+            let made = cone.split_open(&mut above, 1, 2, bound)?;
+            Some((made, above))
         }
     }
 }
 
+// The mediant attains the bound.
 #[test]
-fn narrow_cones_split(rt: HostRuntime) -> Result<(), Fail> {
-    let q = matrix(rt.alloc(), 2, -3, 6)?;
-    let mut second = narrow_root(&q).ok_or("not narrow")?;
+fn both_children_of_a_mediant_within_the_bound(rt: HostRuntime) -> Result<(), Fail> {
+    let mut second = root_of(&rt, rt.alloc(), 2, &[2, -3, 6])?;
     assert_eq!(rt; second.pair(), Some((1, 2)));
     assert_eq!(rt; second.least_value(), 2);
     assert!(rt; !second.closed(1));
-    let first = split(&rt, &mut second).ok_or("not narrow")?;
+    let (made, first) = split(&rt, &mut second, 2).ok_or("not narrow")?;
+    assert!(rt; matches!(made, OpenChildren::Within));
     assert_eq!(rt; gram(&rt, &first), [2, 3, 6]);
     assert_eq!(rt; generators(&rt, &first), [1, 1, 0, 1]);
     assert_eq!(rt; (first.path().len(), first.pair()), (1, None));
@@ -69,22 +72,85 @@ fn narrow_cones_split(rt: HostRuntime) -> Result<(), Fail> {
     Ok(())
 }
 
+#[test]
+fn both_open_children(rt: HostRuntime) -> Result<(), Fail> {
+    let mut second = root_of(&rt, rt.alloc(), 2, &[1, 1, 1])?;
+    let (made, first) = split(&rt, &mut second, 2).ok_or("not narrow")?;
+    assert!(rt; matches!(made, OpenChildren::Both));
+    assert_eq!(rt; gram(&rt, &first), [4, 2, 1]);
+    assert_eq!(rt; gram(&rt, &second), [1, 2, 4]);
+    assert!(rt; first.closed(1) && !first.closed(2));
+    assert!(rt; second.closed(1) && !second.closed(2));
+    Ok(())
+}
+
+// Child 1 is closed.
+#[test]
+fn child_0_alone(rt: HostRuntime) -> Result<(), Fail> {
+    let mut row = root_of(&rt, rt.alloc(), 2, &[7, -3, 2])?;
+    let (made, _) = split(&rt, &mut row, 2).ok_or("not narrow")?;
+    assert!(rt; matches!(made, OpenChildren::First));
+    assert_eq!(rt; gram(&rt, &row), [3, -1, 2]);
+    assert_eq!(rt; generators(&rt, &row), [1, 1, 0, 1]);
+    assert!(rt; row.closed(1) && !row.closed(2));
+    Ok(())
+}
+
+// Child 0 is closed.
+#[test]
+fn child_1_alone(rt: HostRuntime) -> Result<(), Fail> {
+    let mut row = root_of(&rt, rt.alloc(), 2, &[2, -3, 7])?;
+    let (made, _) = split(&rt, &mut row, 2).ok_or("not narrow")?;
+    assert!(rt; matches!(made, OpenChildren::Second));
+    assert_eq!(rt; gram(&rt, &row), [2, -1, 3]);
+    assert_eq!(rt; generators(&rt, &row), [1, 0, 1, 1]);
+    assert!(rt; row.closed(1) && !row.closed(2));
+    Ok(())
+}
+
+// The slacks of child 1 are just the bound.
+#[test]
+fn no_open_child(rt: HostRuntime) -> Result<(), Fail> {
+    let mut row = root_of(&rt, rt.alloc(), 2, &[2, -3, 6])?;
+    let (made, _) = split(&rt, &mut row, 1).ok_or("not narrow")?;
+    assert!(rt; matches!(made, OpenChildren::Neither));
+    Ok(())
+}
+
+// The matrix 4 -3 -3 / -3 5 2 / -3 2 5. The mediant's products with the generators are 1, 2 and -1, and its value is 3. The
+// slacks of child 0, `3 2 -1 / 2 5 2 / -1 2 5`, are 2, 5 and 4; those of child 1, `4 1 -3 / 1 3 -1 / -3 -1 5`, are 1, 2 and 1.
+#[test]
+fn a_third_generator(rt: HostRuntime) -> Result<(), Fail> {
+    let mut row = root_of(&rt, rt.alloc(), 3, &[4, -3, 5, -3, 2, 5])?;
+    let (made, _) = split(&rt, &mut row, 2).ok_or("not narrow")?;
+    assert!(rt; matches!(made, OpenChildren::Second));
+    assert!(rt; row.closed(1) && !row.closed(2));
+    // At 3 the mediant is within the bound.
+    let mut row = root_of(&rt, rt.alloc(), 3, &[4, -3, 5, -3, 2, 5])?;
+    let (made, first) = split(&rt, &mut row, 3).ok_or("not narrow")?;
+    assert!(rt; matches!(made, OpenChildren::Within));
+    assert!(rt; first.closed(2) && !first.closed(3));
+    assert!(rt; row.closed(1) && !row.closed(2));
+    Ok(())
+}
+
 /// 2^59, the narrow limit.
 const LARGEST: i128 = 576460752303423488;
 
 #[test]
 fn numbers_over_the_narrow_limit(rt: HostRuntime) -> Result<(), Fail> {
     let alloc = rt.alloc();
-    assert!(rt; narrow_root(&matrix(alloc, LARGEST + 1, 0, 0)?).is_none());
-    assert!(rt; narrow_root(&matrix(alloc, 0, 0 - LARGEST - 1, 0)?).is_none());
+    assert!(rt; narrow_root(&matrix(&rt, alloc, 2, &[LARGEST + 1, 0, 0])?).is_none());
+    assert!(rt; narrow_root(&matrix(&rt, alloc, 2, &[0, 0 - LARGEST - 1, 0])?).is_none());
     // The entry of child 0 at (1, 1) is 2^59 + 2.
-    let mut cone = narrow_root(&matrix(alloc, LARGEST, -1, 4)?).ok_or("not narrow")?;
-    assert!(rt; split(&rt, &mut cone).is_none());
+    let mut cone = root_of(&rt, alloc, 2, &[LARGEST, -1, 4])?;
+    assert!(rt; split(&rt, &mut cone, 1).is_none());
     assert_eq!(rt; gram(&rt, &cone), [LARGEST, -1, 4]);
     assert!(rt; !cone.closed(LARGEST + 1));
-    // It is 2^59, and so is that of child 1 at (2, 2).
-    let mut cone = narrow_root(&matrix(alloc, LARGEST - 2, -1, 4)?).ok_or("not narrow")?;
-    let first = split(&rt, &mut cone).ok_or("not narrow")?;
+    // It is 2^59, and so is that of child 1 at (2, 2). A bound over it lets each mediant through.
+    let mut cone = root_of(&rt, alloc, 2, &[LARGEST - 2, -1, 4])?;
+    let (made, first) = split(&rt, &mut cone, u64::MAX).ok_or("not narrow")?;
+    assert!(rt; matches!(made, OpenChildren::Within));
     assert_eq!(rt; gram(&rt, &first), [LARGEST, 3, 4]);
     assert_eq!(rt; gram(&rt, &cone), [LARGEST - 2, LARGEST - 3, LARGEST]);
     Ok(())

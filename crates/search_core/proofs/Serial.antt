@@ -21,13 +21,13 @@ pub alone_start : (m : Mode) (n : ℕ) (q : Matrix) (d : ℕ) → IsKept m n q d
 alone_start m n q d = start_is_kept m n q d (alone ([] ∷ []) (start_word m n q) []) (record { waiting = refl; hands = empty_alone; word = refl; judged = refl })
 
 -- the same judgements, in whatever order
-record IsSameJudged (judged again : List Judged) : Type 0 where
+pub record IsSameJudged (judged again : List Judged) : Type 0 where
   judged_paths : (x : Path) → times x (paths judged) ≡ times x (paths again)
   below : (x : Path) → times x (below_splits judged) ≡ times x (below_splits again)
   back : (j : Judged) → Contains again j → Contains judged j
   forth : (j : Judged) → Contains judged j → Contains again j
 
-same_judged : (judged : List Judged) → IsSameJudged judged judged
+pub same_judged : (judged : List Judged) → IsSameJudged judged judged
 same_judged judged = record { judged_paths = λ x. refl; below = λ x. refl; back = λ j c. c; forth = λ j c. c }
 
 -- the last of all, or the first
@@ -50,7 +50,7 @@ last_first judged j = record {
     forth k (inr e) = subst (λ (i : Judged). Contains (j ∷ judged) i) e (contains_here j judged)
 
 -- the order of the paths that wait does not matter, nor that of the judgements
-reordered : (m : Mode) (n : ℕ) (q : Matrix) (d : ℕ) (stack other : List Path) (word : ℕ) (judged again : List Judged)
+pub reordered : (m : Mode) (n : ℕ) (q : Matrix) (d : ℕ) (stack other : List Path) (word : ℕ) (judged again : List Judged)
     → ((x : Path) → times x stack ≡ times x other) → IsSameJudged judged again
     → IsKept m n q d (alone stack word judged) → IsKept m n q d (alone other word again)
 reordered m n q d stack other word judged again same all kept = record {

@@ -24,4 +24,5 @@ pub record IsBlankTable (rows : List (List ℕ)) : Type 0 where
 
 pub record IsKeySet (s : Inside) : Type 0 where
   pub rows : length s.table ≡ 64
-  pub there : (k : ℕ) → k < 64 → Contains s.set.keys (slice_index_or s.table k []) ⊎ IsBlank (slice_index_or s.table k [])
+  pub there : (k : ℕ) → k < 64
+      → Contains s.set.keys (slice_index_or s.table k []) ⊎ IsBlank (slice_index_or s.table k [])

@@ -41,4 +41,4 @@ pub use settling::{
     settle_least, settle_least_noted, settle_least_part, settle_sign, settle_sign_part,
 };
 pub use unimodular_cone::Mode;
-pub use words::{code, least_diagonal, start_word};
+pub use words::{bound_under, code, least_diagonal, start_word};

@@ -81,7 +81,7 @@ pub fn code<C: ConeRead>(mode: Mode, c: &C) -> u64
 }
 
 /// The bound that a word stands for: 0 (Sign), or the word less 256, and at least 1 (Least).
-pub(crate) fn bound_under(mode: Mode, word: u64) -> u64
+pub fn bound_under(mode: Mode, word: u64) -> u64
     ensures { pos result ≡ bound_under mode word }
 {
     match mode {

@@ -8,3 +8,6 @@ pub mod Lefts
 pub mod Digits
 pub mod Reached
 pub mod Minima
+pub mod AnyChild
+pub mod LeftOut
+pub mod Opens

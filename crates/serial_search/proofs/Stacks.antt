@@ -52,7 +52,7 @@ abbrev pub cones_left : ℕ → List ShownCone → ℕ
 cones_left d [] = 0
 cones_left d (c ∷ stack) = still d c + cones_left d stack
 
-left-append : (d : ℕ) (a b : List ShownCone) → cones_left d (a ++ b) ≡ cones_left d a + cones_left d b
+pub left-append : (d : ℕ) (a b : List ShownCone) → cones_left d (a ++ b) ≡ cones_left d a + cones_left d b
 left-append d [] b = omega arith
 left-append d (c ∷ a) b = let r : cones_left d (a ++ b) ≡ cones_left d a + cones_left d b = left-append d a b in omega arith
 
@@ -235,7 +235,7 @@ over_or_within : (z : ℤ) (word : ℕ) → 256 < word → IsNotUnder word z ⊎
 over_or_within z word over = grind (arith, ints)
 
 -- a word over 256 is none of a search for a sign
-large_word_is_least : (m : Mode) (n : ℕ) (q : Matrix) (word : ℕ) → 256 < word → word ≤ start_word m n q → m ≡ Least
+pub large_word_is_least : (m : Mode) (n : ℕ) (q : Matrix) (word : ℕ) → 256 < word → word ≤ start_word m n q → m ≡ Least
 large_word_is_least Sign n q word over le = absurd (omega arith)
 large_word_is_least Least n q word over le = refl
 

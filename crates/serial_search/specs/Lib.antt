@@ -3,3 +3,4 @@ pub mod Found
 pub mod Values
 pub mod Walks
 pub mod Searching
+pub mod OpenTurns

@@ -1,36 +1,52 @@
 //! The search over narrow cones, as far as cones are narrow: from the root, or from each cone that is the first narrow one on its
 //! path. It ends without an answer where a narrow cone has a child that is not.
 
-ghost use Rattle.std.specs.Prelude.{◌≡◌, ◌≤◌, ◌<◌, ◌++◌, [], ◌∷◌, length, List, IfOk, IfSome, IsTrue};
+ghost use Rattle.std.specs.Prelude.{◌≡◌, ◌≤◌, ◌<◌, ◌++◌, [], ◌∷◌, length, List, IfOk, IfSome};
 ghost use Rattle.symmetric_matrix.specs.Symmetric.{entry};
 ghost use Rattle.unimodular_cone.specs.Answer.{BoundFits};
 ghost use Rattle.unimodular_cone.specs.Cones.{Fits, unit_vectors};
 ghost use Rattle.unimodular_cone.specs.Shown.{ShownCone, IsConeAt, IsWithinLimits};
 ghost use Rattle.serial_search.specs.Found.{IsFairSearch};
 ghost use Rattle.serial_search.specs.Searching.{IsSearchingOver, IsOne};
-ghost use Rattle.serial_search.specs.Turns.{MayTurn, IsTurnOf, IsArenaEmptied};
+ghost use Rattle.serial_search.specs.OpenTurns.{new_among, IsOpenTurnOf};
+ghost use Rattle.serial_search.specs.Turns.{MayTurn, IsArenaEmptied};
 
 use crate::mixed_search::search_from_wide;
 use crate::search::Judgements;
 use cone_arena::NarrowArena;
-use search_core::{Fate, NewGenerators, keep_fate, lowering_fate, note_new, start_word};
+use search_core::{
+    Fate, NewGenerators, bound_under, keep_fate, lowering_fate, note_new, start_word,
+};
 use std::alloc::{AllocError, Global};
 use symmetric_matrix::SymInt;
-use unimodular_cone::{Mode, NarrowCone, narrow_root};
+use unimodular_cone::{Mode, NarrowCone, OpenChildren, narrow_root};
 
-/// Puts the children of a split top in its place, child 0 last, where both are narrow. A top of any other fate is taken away.
-/// Answers whether that was done.
+/// Which generators are new in the cone that is judged directly after a split of which these children were made, on the sides of
+/// generator i and another.
 #[inline(always)]
-fn turn(arena: &mut NarrowArena, fate: &Fate) -> bool
+fn new_in(made: OpenChildren, i: u8) -> NewGenerators
+    ensures { result ≡ new_among made i }
+{
+    match made {
+        OpenChildren::Within => NewGenerators::One { which: i },
+        _ => NewGenerators::NoOne,
+    }
+}
+
+/// Puts the children of a split top that are made in its place, child 0 last, where both are narrow. A top of any other fate is
+/// taken away. Answers which generators are new in the cone that is then on top. None where a child is not narrow.
+#[inline(always)]
+fn turn(arena: &mut NarrowArena, mode: Mode, fate: &Fate, word: u64) -> Option<NewGenerators>
     requires some { 0 < length arena.old.cones }
     requires may { MayTurn arena.old fate.now }
-    ensures { IsTrue result → IsTurnOf arena.old fate.now arena.new }
+    ensures { IfSome result (IsOpenTurnOf mode word arena.old fate.now arena.new) }
 {
     if let Fate::Split { i, j, .. } = *fate {
-        return arena.split_fitting(i, j);
+        let made = arena.split_open(i, j, bound_under(mode, word))?;
+        return Some(new_in(made, i));
     }
     arena.drop_top();
-    true
+    Some(NewGenerators::NoOne)
 }
 
 /// Searches from a narrow cone, which stands alone in an arena that was made for the limit and is then empty. It is the top of
@@ -63,10 +79,10 @@ pub(crate) fn search_above(
         let fate = lowering_fate(mode, cone, limit, fresh, &mut word);
         keep_fate(&mut found.judged, mode, cone, limit, &fate, word)?;
         note_new(&mut found.attaining, cone, fresh, before, word)?;
-        if !turn(arena, &fate) {
+        let Some(next) = turn(arena, mode, &fate, word) else {
             return Ok(None);
-        }
-        fresh = NewGenerators::after(&fate);
+        };
+        fresh = next;
     }
     found.final_word = word;
     Ok(Some(fresh))

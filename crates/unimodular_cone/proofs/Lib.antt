@@ -27,9 +27,11 @@ pub mod Ways
 pub mod Copies
 pub mod NarrowSums
 pub mod NarrowParts
+pub mod ChildSlacks
 pub mod NarrowChildren
 pub mod NarrowRoots
 pub mod NarrowCopies
 pub mod NarrowReplaced
 pub mod ShallowCoordinates
 pub mod Tops
+pub mod SlackChoices

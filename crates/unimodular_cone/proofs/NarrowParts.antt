@@ -75,7 +75,7 @@ narrow_kept_read g i j left y z p e none is =
     subst (IsNarrowPart g i (j + 1)) (sym is) (narrow_kept g i j left p (inr (subst (λ (w : ℤ). pos 0 ≤ℤ w) e (test_false y (pos 0) none))))
 
 -- ---- no slack is above the value on the diagonal
-beside_nonneg : (g : ℕ → ℕ → ℤ) (i k : ℕ) → pos 0 ≤ℤ beside g i k
+pub beside_nonneg : (g : ℕ → ℕ → ℤ) (i k : ℕ) → pos 0 ≤ℤ beside g i k
 beside_nonneg g i k = by (same_or_not k i)
   where
     by : ((k ≡ i) ⊎ (k ≢ i)) → pos 0 ≤ℤ beside g i k

@@ -14,3 +14,5 @@ pub mod Theorems
 pub mod Copies
 pub mod Narrow
 pub mod NarrowFields
+pub mod OpenChildren
+pub mod SlackFields

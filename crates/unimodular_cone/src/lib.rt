@@ -14,11 +14,14 @@ mod narrow_bound;
 mod narrow_numbers;
 mod narrow_pair;
 mod narrow_sums;
+mod open_children;
 mod pair_rule;
 mod path;
 mod place;
 mod refusal;
 mod root_numbers;
+mod slack_cone;
+mod slack_numbers;
 
 pub use bound_test::{closed, least_value};
 pub use cone::{Cone, at_path, child, root};
@@ -32,6 +35,8 @@ pub use law::{
 pub use mediant::children_fit;
 pub use mode::Mode;
 pub use narrow::{NarrowCone, narrow_root};
+pub use open_children::OpenChildren;
 pub use pair_rule::pair;
 pub use path::Path;
 pub use refusal::{ConeFail, WideAt, WideEntry};
+pub use slack_cone::SlackCone;

@@ -1,25 +1,19 @@
 //! Cones whose Gram entries are kept in 64 bits.
 
-ghost use Rattle.std.specs.Prelude.{◌≡◌, ◌≢◌, ◌≤◌, ◌<◌, ◌-◌, ◌^◌, ◌↔◌, [], ◌∷◌, ◌++◌, true, false, length, nat_eq, nat_abs, IsTrue, IfSome, MatchOption};
+ghost use Rattle.std.specs.Prelude.{◌≡◌, ◌≢◌, ◌≤◌, ◌<◌, ◌^◌, [], ◌∷◌, ◌++◌, length, nat_eq, nat_abs, IfSome, MatchOption};
 ghost use Rattle.exact_forms.specs.Triangles.{triangle};
 ghost use Rattle.symmetric_matrix.specs.Symmetric.{entry};
 ghost use Rattle.unimodular_cone.specs.Copies.{IsCopiedTo};
 ghost use Rattle.unimodular_cone.specs.Mediant.{FitsWith, IsMediantOf, AreProducts};
 ghost use Rattle.unimodular_cone.specs.Narrow.{HasNarrowGram, HasNarrowMediant, HasShallowCoordinates, IsNarrowMatrix};
 ghost use Rattle.unimodular_cone.specs.Replacement.{IsChildWith, IsRowSet};
-ghost use Rattle.unimodular_cone.specs.Shown.{FitsOnBothSides, shown_gram, IsWithinLimits, IsConeAt, IsChild};
+ghost use Rattle.unimodular_cone.specs.Shown.{shown_gram, IsWithinLimits, IsConeAt};
 
 use crate::cone::{Cone, copy_rows};
 use crate::cone_read::ConeRead;
-use crate::cone_tests::ConeTests;
-use crate::mediant::{children_fit, mediant_coordinates};
-use crate::narrow_bound::{closed, least_value};
 use crate::narrow_numbers::{entries_of, is_narrow, narrow_copies, narrow_lower_of};
-use crate::narrow_pair::pair;
-use crate::narrow_sums::{are_narrow, coordinates_fit, products};
 use crate::path::Path;
 use crate::place::place_of;
-use crate::refusal::WideAt;
 use crate::root_numbers::unit_rows;
 use std::marker::Model;
 use symmetric_matrix::SymInt;
@@ -48,61 +42,9 @@ impl Model for NarrowCone {
 }
 
 impl NarrowCone {
-    /// Splits the cone on the sides of the generators i and j, which count from 1, where both children are narrow: it becomes
-    /// its child 1, with v_i + v_j in the place of v_j, and `above` becomes its child 0, with v_i + v_j in the place of v_i.
-    /// Answers whether they are; where not, the cone is as before. No entry of either is to be over its limit.
-    ///
-    /// Only the numbers that count are written, and no memory is taken.
-    #[inline(always)]
-    pub fn split_into(&mut self, above: &mut NarrowCone, i: u8, j: u8) -> bool
-        requires first { 1 ≤ i }
-        requires order { i < j }
-        requires last { j ≤ self.old.size }
-        requires room { length self.old.path < 200 }
-        requires fits { FitsOnBothSides self.old (i - 1) (j - 1) }
-        ensures narrow { IsTrue result ↔ HasNarrowMediant self.old (i - 1) (j - 1) }
-        ensures zero { IsTrue result → IsChild self.old (i - 1) (j - 1) false above.new }
-        ensures one { IsTrue result → IsChild self.old (i - 1) (j - 1) true self.new }
-        ensures kept { result ≡ false → self.new ≡ self.old }
-    {
-        let (r, s) = (i - 1, j - 1);
-        match self.n {
-            3 => self.split_sized(above, r, s, 3),
-            4 => self.split_sized(above, r, s, 4),
-            5 => self.split_sized(above, r, s, 5),
-            6 => self.split_sized(above, r, s, 6),
-            n => self.split_sized(above, r, s, n),
-        }
-    }
-
-    /// The same of a cone of n generators, on the sides of r and s, which count from 0.
-    #[inline(always)]
-    fn split_sized(&mut self, above: &mut NarrowCone, r: u8, s: u8, n: u8) -> bool
-        requires within { IsWithinLimits self.old }
-        requires size { n ≡ self.old.size }
-        requires order { r < s }
-        requires last { s < n }
-        requires room { length self.old.path < 200 }
-        requires fits { FitsOnBothSides self.old r s }
-        ensures narrow { IsTrue result ↔ HasNarrowMediant self.old r s }
-        ensures zero { IsTrue result → IsChild self.old r s false above.new }
-        ensures one { IsTrue result → IsChild self.old r s true self.new }
-        ensures kept { result ≡ false → self.new ≡ self.old }
-    {
-        let products = products(self, r, s, n);
-        if !are_narrow(self, &products, r, s, n) {
-            return false;
-        }
-        let coordinates = mediant_coordinates(self, r, s, n);
-        above.become_copy(self, n);
-        above.put(&coordinates, &products, r, s, 0, n);
-        self.put(&coordinates, &products, s, r, 1, n);
-        true
-    }
-
     /// Becomes the same cone as another, of n generators.
     #[inline(always)]
-    fn become_copy(&mut self, other: &NarrowCone, n: u8)
+    pub(crate) fn become_copy(&mut self, other: &NarrowCone, n: u8)
         requires size { n ≡ other.now.size }
         ensures { self.new ≡ other.now }
     {
@@ -166,7 +108,15 @@ impl NarrowCone {
     /// Puts the mediant of r and s in the place of r, and a digit at the path's end, with the mediant's coordinates and its
     /// products with the n generators. That child is narrow, and no entry of it is over its limit.
     #[inline(always)]
-    fn put(&mut self, coordinates: &[u64; 8], products: &[i64; 8], r: u8, s: u8, side: u8, n: u8)
+    pub(crate) fn put(
+        &mut self,
+        coordinates: &[u64; 8],
+        products: &[i64; 8],
+        r: u8,
+        s: u8,
+        side: u8,
+        n: u8,
+    )
         requires size { n ≡ self.old.size }
         requires first { r < self.old.size }
         requires second { s < self.old.size }
@@ -207,32 +157,6 @@ impl ConeRead for NarrowCone {
     #[inline(always)]
     fn coordinate(&self, generator: u8, place: u8) -> u64 {
         self.generators[usize::from(generator - 1)][usize::from(place - 1)]
-    }
-}
-
-impl ConeTests for NarrowCone {
-    #[inline(always)]
-    fn closed(&self, b: i128) -> bool {
-        closed(self, b)
-    }
-
-    #[inline(always)]
-    fn least_value(&self) -> i128 {
-        i128::from(least_value(self))
-    }
-
-    #[inline(always)]
-    fn pair(&self) -> Option<(u8, u8)> {
-        pair(self)
-    }
-
-    #[inline(always)]
-    fn children_fit(&self, i: u8, j: u8) -> Option<WideAt> {
-        // The Gram entries of both children are within their limits.
-        if coordinates_fit(self, i - 1, j - 1) {
-            return None;
-        }
-        children_fit(self, i, j)
     }
 }
 

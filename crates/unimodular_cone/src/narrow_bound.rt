@@ -1,7 +1,7 @@
-//! The bound test of a narrow cone, in 64 bits.
+//! A slack and the least value of a narrow cone, in 64 bits.
 
-ghost use Rattle.std.specs.Prelude.{◌≡◌, ◌≢◌, ◌≤◌, ◌<◌, ◌^◌, ◌-◌, ◌↔◌, IsTrue, pos, ◌≤ℤ◌, ℕ};
-ghost use Rattle.exact_forms.specs.Slacks.{slack, IsClosed};
+ghost use Rattle.std.specs.Prelude.{◌≡◌, ◌≢◌, ◌≤◌, ◌<◌, ◌^◌, ◌-◌, pos, ◌≤ℤ◌, ℕ};
+ghost use Rattle.exact_forms.specs.Slacks.{slack};
 ghost use Rattle.unimodular_cone.specs.Answer.{IsLeastDiagonal};
 ghost use Rattle.unimodular_cone.specs.Narrow.{IsNarrowPart};
 ghost use Rattle.unimodular_cone.specs.Shown.{shown_gram};
@@ -31,7 +31,7 @@ fn left_after(c: &NarrowCone, i: u8, first: u8, end: u8, before: i64) -> i64
 
 /// The slack of a generator that counts from 0.
 #[inline(always)]
-fn slack_of(c: &NarrowCone, i: u8, n: u8) -> i64
+pub fn slack_of(c: &NarrowCone, i: u8, n: u8) -> i64
     requires few { n ≤ 8 }
     requires size { n ≡ c.now.size }
     requires range { i < n }
@@ -40,46 +40,6 @@ fn slack_of(c: &NarrowCone, i: u8, n: u8) -> i64
 {
     let left = left_after(c, i, 0, i, c.entry(i, i));
     left_after(c, i, i + 1, n, left)
-}
-
-/// Whether every slack of a cone of n generators is at least b. For an n that the compiler knows it lays out every sum.
-#[inline(always)]
-fn closed_of(c: &NarrowCone, n: u8, b: i64) -> bool
-    requires few { n ≤ 8 }
-    requires size { n ≡ c.now.size }
-    ensures { IsTrue result ↔ IsClosed c.now.size (shown_gram c.now) b }
-{
-    for i in 0..n {
-        if slack_of(c, i, n) < b {
-            return false;
-        }
-    }
-    true
-}
-
-/// Whether every slack is at least b.
-#[inline(always)]
-pub fn closed(c: &NarrowCone, b: i128) -> bool
-    requires low { pos 0 ≤ℤ b }
-    requires high { b ≤ℤ pos (2 ^ 64 - 1) }
-    ensures { IsTrue result ↔ IsClosed c.now.size (shown_gram c.now) b }
-{
-    let n = c.count();
-    // No slack is above the narrow limit.
-    if b > 1 << 59 {
-        return false;
-    }
-    let bound = b as i64;
-    match n {
-        2 => closed_of(c, 2, bound),
-        3 => closed_of(c, 3, bound),
-        4 => closed_of(c, 4, bound),
-        5 => closed_of(c, 5, bound),
-        6 => closed_of(c, 6, bound),
-        7 => closed_of(c, 7, bound),
-        8 => closed_of(c, 8, bound),
-        n => closed_of(c, n, bound),
-    }
 }
 
 /// The least value of one of n generators.

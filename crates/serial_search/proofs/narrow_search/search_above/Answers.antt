@@ -1,9 +1,9 @@
 use Rattle.std.specs.Prelude.{◌<◌, List}
 use Rattle.std.proofs.Common.{arith, refl, ◌∙◌}
-use Rattle.search_core.specs.Noting.{new_after}
 use Rattle.unimodular_cone.specs.Shown.{ShownCone}
 use Rattle.serial_search.proofs.Stacks.{cones_left, no_items}
-use Rattle.serial_search.proofs.Loops.{IsSearchLoop, loop_starts_above, loop_ends_above, loop_within, loop_named, loop_others, loop_may_turn, loop_turns}
+use Rattle.serial_search.proofs.Loops.{IsSearchLoop, loop_starts_above, loop_ends_above, loop_within, loop_named, loop_others, loop_may_turn}
+use Rattle.serial_search.proofs.Opens.{loop_opens}
 use Rattle.serial_search.proofs.narrow_search.search_above.Goals as goal
 
 pub loop-mode-init : goal.loop-mode-init
@@ -34,23 +34,22 @@ turn-requires-clause-may c =
     loop_may_turn (c.loop-mode.invariant.loop c.requires.stands.0 c.requires.stands.1) c.top-cone.ensures.top.0 _ c.top-cone.ensures.top.1 _ _
     c.top-cone.ensures.size c.lowering_fate-fate.ensures.fate
 
-step : (c : goal.After-after-fresh) (below : List ShownCone)
+step : (c : goal.In-Some) (below : List ShownCone)
     → IsSearchLoop c.args.mode c.args.q.now c.args.limit below c.loop-mode.arena c.loop-mode.word c.loop-mode.fresh c.loop-mode.found.judged.items
     c.loop-mode.found.attaining.keys
-    → IsSearchLoop c.args.mode c.args.q.now c.args.limit below c.turn.new.arena c.lowering_fate-fate.new.word (new_after c.lowering_fate-fate.result)
+    → IsSearchLoop c.args.mode c.args.q.now c.args.limit below c.turn.new.arena c.lowering_fate-fate.new.word c.in-Some.next
     c.keep_fate.new.judged.items c.note_new.new.found.keys
     × (cones_left c.args.limit c.turn.new.arena.cones < cones_left c.args.limit c.loop-mode.arena.cones)
-step c below h = loop_turns h c.top-cone.ensures.top.0 _ c.top-cone.ensures.top.1 _ _ _ _ _ c.n-n.ensures.matrix.positive c.requires.limited
-    c.lowering_fate-fate.ensures.word c.lowering_fate-fate.ensures.fate (c.if-not-turn.ensures refl) c.in_ok-keep_fate.ensures.kept
-    c.in_ok-note_new.ensures
+step c below h = loop_opens h c.top-cone.ensures.top.0 _ c.top-cone.ensures.top.1 c.n-n.ensures.matrix.positive c.requires.limited _ _ _
+    c.lowering_fate-fate.ensures.word c.in_ok-note_new.ensures _ _ _ c.lowering_fate-fate.ensures.fate c.in-Some.ensures c.in_ok-keep_fate.ensures.kept
 
 pub loop-mode-smaller : goal.loop-mode-smaller
 loop-mode-smaller c = (step c c.requires.stands.0 (c.loop-mode.invariant.loop c.requires.stands.0 c.requires.stands.1)).1
 
 pub loop-mode-preserved : goal.loop-mode-preserved
 loop-mode-preserved c = record {
-  loop = λ below stands. rw c.after-fresh.ensures (step c below (c.loop-mode.invariant.loop below stands)).0;
-  room = ((c.if-not-turn.ensures refl).size ∙ c.loop-mode.invariant.room.0, (c.if-not-turn.ensures refl).depth ∙ c.loop-mode.invariant.room.1);
+  loop = λ below stands. (step c below (c.loop-mode.invariant.loop below stands)).0;
+  room = (c.in-Some.ensures.size ∙ c.loop-mode.invariant.room.0, c.in-Some.ensures.depth ∙ c.loop-mode.invariant.room.1);
 }
 
 pub returns-clause-searched : goal.returns-clause-searched
