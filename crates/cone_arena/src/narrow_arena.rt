@@ -8,7 +8,7 @@ ghost use Rattle.cone_arena.specs.SplitRows.{IsSplittableAt};
 
 use std::alloc::{AllocError, Global};
 use std::marker::Model;
-use unimodular_cone::{ConeRead, NarrowCone, OpenChildren, SlackCone};
+use unimodular_cone::{ConeRead, NarrowCone, OpenChildren, Opened, SlackCone};
 
 /// Narrow cones of n generators each, one above the other, in one block of memory with room for two more than a depth.
 ///
@@ -65,22 +65,23 @@ impl NarrowArena {
     }
 
     /// Splits the top, whose children fit, on the sides of the generators i and j, which count from 1, where both children are
-    /// narrow. Both take its place, child 0 above, where the mediant's value is at most the bound, else each that is not closed at
-    /// the bound. Answers which are made. None where a child is not narrow, and the list is as before.
+    /// narrow. Both take its place, child 0 above, where the mediant's value is below the bound, else each that is not closed at
+    /// the bound. Answers which are made, and whether the mediant's value is the bound: there `mediant` gets its coordinates, with
+    /// zeros past them. None where a child is not narrow, and the list is as before.
     #[inline(always)]
-    pub fn split_open(&mut self, i: u8, j: u8, bound: u64) -> Option<OpenChildren>
+    pub fn split_open(&mut self, i: u8, j: u8, bound: u64, mediant: &mut [u64; 8]) -> Option<Opened>
         requires can { MaySplit self.old i j }
         requires fits { TopFits self.old i j }
-        ensures opened { IfSome result (λ made. IsTopOpened self.old i j (pos bound) made self.new) }
+        ensures opened { IfSome result (λ o. IsTopOpened self.old i j (pos bound) o mediant.new self.new) }
         ensures kept { result ≡ None → self.new ≡ self.old }
     {
-        let made = open_in(&mut self.rows, self.len - 1, i, j, bound)?;
-        match made {
-            OpenChildren::Within | OpenChildren::Both => self.len += 1,
+        let opened = open_in(&mut self.rows, self.len - 1, i, j, bound, mediant)?;
+        match opened.made {
+            OpenChildren::Below | OpenChildren::Both => self.len += 1,
             OpenChildren::First | OpenChildren::Second => {}
             OpenChildren::Neither => self.len -= 1,
         }
-        Some(made)
+        Some(opened)
     }
 
     /// Takes the top away.
@@ -127,17 +128,25 @@ fn put_first(rows: &mut Vec<SlackCone>, cone: SlackCone)
 /// Splits the cone of a row, where both children are narrow: those that are made stand in that row and in the one above, whatever is
 /// in it. Answers which are made; None leaves the rows up to that one as before.
 #[inline(always)]
-fn open_in(rows: &mut Vec<SlackCone>, top: usize, i: u8, j: u8, bound: u64) -> Option<OpenChildren>
+fn open_in(
+    rows: &mut Vec<SlackCone>,
+    top: usize,
+    i: u8,
+    j: u8,
+    bound: u64,
+    mediant: &mut [u64; 8],
+) -> Option<Opened>
     requires inside { top < length rows.old.items }
     requires above { top + 1 < vec_capacity rows.old }
     requires splits { IsSplittableAt rows.old.items top i j }
-    ensures opened { IfSome result (λ made. AreRowsOpened rows.old.items top i j (pos bound) made rows.new.items) }
+    ensures opened { IfSome result (λ o.
+        AreRowsOpened rows.old.items top i j (pos bound) o mediant.new rows.new.items) }
     ensures kept { result ≡ None → take (top + 1) rows.new.items ≡ take (top + 1) rows.old.items }
     ensures counted { top + 1 < length rows.new.items }
     ensures capacity { vec_capacity rows.new ≡ vec_capacity rows.old }
 {
     fill_above(rows, top);
-    open_rows(rows, top, i, j, bound)
+    open_rows(rows, top, i, j, bound, mediant)
 }
 
 /// Puts a cone, whichever, into the row above, if there is none.
@@ -159,13 +168,20 @@ fn fill_above(rows: &mut Vec<SlackCone>, top: usize)
 /// Splits the cone of a row where it stands, where both children are narrow: those that are made stand in that row and in the next.
 /// Answers which are made.
 #[inline(always)]
-fn open_rows(rows: &mut [SlackCone], top: usize, i: u8, j: u8, bound: u64) -> Option<OpenChildren>
+fn open_rows(
+    rows: &mut [SlackCone],
+    top: usize,
+    i: u8,
+    j: u8,
+    bound: u64,
+    mediant: &mut [u64; 8],
+) -> Option<Opened>
     requires inside { top + 1 < length rows.old }
     requires splits { IsSplittableAt rows.old top i j }
-    ensures opened { IfSome result (λ made. AreRowsOpened rows.old top i j (pos bound) made rows.new) }
+    ensures opened { IfSome result (λ o. AreRowsOpened rows.old top i j (pos bound) o mediant.new rows.new) }
     ensures kept { result ≡ None → take (top + 1) rows.new ≡ take (top + 1) rows.old }
     ensures count { length rows.new ≡ length rows.old }
 {
     let (below, above) = rows.split_at_mut(top + 1);
-    below[top].split_open(&mut above[0], i, j, bound)
+    below[top].split_open(&mut above[0], i, j, bound, mediant)
 }

@@ -14,7 +14,7 @@ use crate::matrix_tests::matrix;
 use std::alloc::Global;
 use std::process::Abort;
 use std::test::Fail;
-use unimodular_cone::{ConeRead, ConeTests, OpenChildren, SlackCone, narrow_root};
+use unimodular_cone::{ConeRead, ConeTests, OpenChildren, Opened, SlackCone, narrow_root};
 
 /// The root's cone of the matrix of n rows with this lower triangle.
 fn root_of(rt: &impl Abort, alloc: Global, n: u8, lower: &[i128]) -> Result<SlackCone, Fail> {
@@ -39,29 +39,41 @@ fn generators(rt: &impl Abort, c: &SlackCone) -> [u64; 4] {
     ]
 }
 
-/// Splits a cone whose children fit on the sides of its first two generators, and gives back which children are made, and the cone
-/// that stands above it then. None where a child is not narrow.
-fn split(rt: &impl Abort, cone: &mut SlackCone, bound: u64) -> Option<(OpenChildren, SlackCone)> {
+/// Splits a cone whose children fit on the sides of its first two generators, and gives back what is told of it, and the cone that
+/// stands above it then. A mediant that attains the bound is to have the coordinates 1, 1 and zeros. None where a child is not
+/// narrow.
+fn split(rt: &impl Abort, cone: &mut SlackCone, bound: u64) -> Option<(Opened, SlackCone)> {
     let mut above = cone.copy();
     assert!(rt; cone.n() >= 2 && cone.path().len() < 200);
     match cone.children_fit(1, 2) {
         Some(_) => panic!(rt; "over a limit"),
         None => {
-            let made = cone.split_open(&mut above, 1, 2, bound)?;
-            Some((made, above))
+            let mut mediant = [0; 8];
+            let opened = cone.split_open(&mut above, 1, 2, bound, &mut mediant)?;
+            if opened.attains {
+                assert_eq!(rt; mediant, [1, 1, 0, 0, 0, 0, 0, 0]);
+            }
+            Some((opened, above))
         }
     }
 }
 
-// The mediant attains the bound.
 #[test]
-fn both_children_of_a_mediant_within_the_bound(rt: HostRuntime) -> Result<(), Fail> {
+fn both_children_of_a_mediant_below_the_bound(rt: HostRuntime) -> Result<(), Fail> {
     let mut second = root_of(&rt, rt.alloc(), 2, &[2, -3, 6])?;
     assert_eq!(rt; second.pair(), Some((1, 2)));
     assert_eq!(rt; second.least_value(), 2);
     assert!(rt; !second.closed(1));
-    let (made, first) = split(&rt, &mut second, 2).ok_or("not narrow")?;
-    assert!(rt; matches!(made, OpenChildren::Within));
+    let (opened, first) = split(&rt, &mut second, 3).ok_or("not narrow")?;
+    assert!(rt;
+        matches!(
+            opened,
+            Opened {
+                made: OpenChildren::Below,
+                attains: false
+            }
+        )
+    );
     assert_eq!(rt; gram(&rt, &first), [2, 3, 6]);
     assert_eq!(rt; generators(&rt, &first), [1, 1, 0, 1]);
     assert_eq!(rt; (first.path().len(), first.pair()), (1, None));
@@ -75,8 +87,16 @@ fn both_children_of_a_mediant_within_the_bound(rt: HostRuntime) -> Result<(), Fa
 #[test]
 fn both_open_children(rt: HostRuntime) -> Result<(), Fail> {
     let mut second = root_of(&rt, rt.alloc(), 2, &[1, 1, 1])?;
-    let (made, first) = split(&rt, &mut second, 2).ok_or("not narrow")?;
-    assert!(rt; matches!(made, OpenChildren::Both));
+    let (opened, first) = split(&rt, &mut second, 2).ok_or("not narrow")?;
+    assert!(rt;
+        matches!(
+            opened,
+            Opened {
+                made: OpenChildren::Both,
+                attains: false
+            }
+        )
+    );
     assert_eq!(rt; gram(&rt, &first), [4, 2, 1]);
     assert_eq!(rt; gram(&rt, &second), [1, 2, 4]);
     assert!(rt; first.closed(1) && !first.closed(2));
@@ -88,8 +108,16 @@ fn both_open_children(rt: HostRuntime) -> Result<(), Fail> {
 #[test]
 fn child_0_alone(rt: HostRuntime) -> Result<(), Fail> {
     let mut row = root_of(&rt, rt.alloc(), 2, &[7, -3, 2])?;
-    let (made, _) = split(&rt, &mut row, 2).ok_or("not narrow")?;
-    assert!(rt; matches!(made, OpenChildren::First));
+    let (opened, _) = split(&rt, &mut row, 2).ok_or("not narrow")?;
+    assert!(rt;
+        matches!(
+            opened,
+            Opened {
+                made: OpenChildren::First,
+                attains: false
+            }
+        )
+    );
     assert_eq!(rt; gram(&rt, &row), [3, -1, 2]);
     assert_eq!(rt; generators(&rt, &row), [1, 1, 0, 1]);
     assert!(rt; row.closed(1) && !row.closed(2));
@@ -100,11 +128,37 @@ fn child_0_alone(rt: HostRuntime) -> Result<(), Fail> {
 #[test]
 fn child_1_alone(rt: HostRuntime) -> Result<(), Fail> {
     let mut row = root_of(&rt, rt.alloc(), 2, &[2, -3, 7])?;
-    let (made, _) = split(&rt, &mut row, 2).ok_or("not narrow")?;
-    assert!(rt; matches!(made, OpenChildren::Second));
+    let (opened, _) = split(&rt, &mut row, 2).ok_or("not narrow")?;
+    assert!(rt;
+        matches!(
+            opened,
+            Opened {
+                made: OpenChildren::Second,
+                attains: false
+            }
+        )
+    );
     assert_eq!(rt; gram(&rt, &row), [2, -1, 3]);
     assert_eq!(rt; generators(&rt, &row), [1, 0, 1, 1]);
     assert!(rt; row.closed(1) && !row.closed(2));
+    Ok(())
+}
+
+// The mediant attains the bound, and child 1 is closed at it.
+#[test]
+fn child_0_alone_of_a_mediant_at_the_bound(rt: HostRuntime) -> Result<(), Fail> {
+    let mut row = root_of(&rt, rt.alloc(), 2, &[7, -3, 2])?;
+    let (opened, _) = split(&rt, &mut row, 3).ok_or("not narrow")?;
+    assert!(rt;
+        matches!(
+            opened,
+            Opened {
+                made: OpenChildren::First,
+                attains: true
+            }
+        )
+    );
+    assert_eq!(rt; gram(&rt, &row), [3, -1, 2]);
     Ok(())
 }
 
@@ -112,8 +166,16 @@ fn child_1_alone(rt: HostRuntime) -> Result<(), Fail> {
 #[test]
 fn no_open_child(rt: HostRuntime) -> Result<(), Fail> {
     let mut row = root_of(&rt, rt.alloc(), 2, &[2, -3, 6])?;
-    let (made, _) = split(&rt, &mut row, 1).ok_or("not narrow")?;
-    assert!(rt; matches!(made, OpenChildren::Neither));
+    let (opened, _) = split(&rt, &mut row, 1).ok_or("not narrow")?;
+    assert!(rt;
+        matches!(
+            opened,
+            Opened {
+                made: OpenChildren::Neither,
+                attains: false
+            }
+        )
+    );
     Ok(())
 }
 
@@ -122,13 +184,29 @@ fn no_open_child(rt: HostRuntime) -> Result<(), Fail> {
 #[test]
 fn a_third_generator(rt: HostRuntime) -> Result<(), Fail> {
     let mut row = root_of(&rt, rt.alloc(), 3, &[4, -3, 5, -3, 2, 5])?;
-    let (made, _) = split(&rt, &mut row, 2).ok_or("not narrow")?;
-    assert!(rt; matches!(made, OpenChildren::Second));
+    let (opened, _) = split(&rt, &mut row, 2).ok_or("not narrow")?;
+    assert!(rt;
+        matches!(
+            opened,
+            Opened {
+                made: OpenChildren::Second,
+                attains: false
+            }
+        )
+    );
     assert!(rt; row.closed(1) && !row.closed(2));
-    // At 3 the mediant is within the bound.
+    // At 3 the mediant attains the bound.
     let mut row = root_of(&rt, rt.alloc(), 3, &[4, -3, 5, -3, 2, 5])?;
-    let (made, first) = split(&rt, &mut row, 3).ok_or("not narrow")?;
-    assert!(rt; matches!(made, OpenChildren::Within));
+    let (opened, first) = split(&rt, &mut row, 3).ok_or("not narrow")?;
+    assert!(rt;
+        matches!(
+            opened,
+            Opened {
+                made: OpenChildren::Both,
+                attains: true
+            }
+        )
+    );
     assert!(rt; first.closed(2) && !first.closed(3));
     assert!(rt; row.closed(1) && !row.closed(2));
     Ok(())
@@ -149,8 +227,16 @@ fn numbers_over_the_narrow_limit(rt: HostRuntime) -> Result<(), Fail> {
     assert!(rt; !cone.closed(LARGEST + 1));
     // It is 2^59, and so is that of child 1 at (2, 2). A bound over it lets each mediant through.
     let mut cone = root_of(&rt, alloc, 2, &[LARGEST - 2, -1, 4])?;
-    let (made, first) = split(&rt, &mut cone, u64::MAX).ok_or("not narrow")?;
-    assert!(rt; matches!(made, OpenChildren::Within));
+    let (opened, first) = split(&rt, &mut cone, u64::MAX).ok_or("not narrow")?;
+    assert!(rt;
+        matches!(
+            opened,
+            Opened {
+                made: OpenChildren::Below,
+                attains: false
+            }
+        )
+    );
     assert_eq!(rt; gram(&rt, &first), [LARGEST, 3, 4]);
     assert_eq!(rt; gram(&rt, &cone), [LARGEST - 2, LARGEST - 3, LARGEST]);
     Ok(())

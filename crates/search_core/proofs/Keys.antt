@@ -1,6 +1,6 @@
 -- Padded vectors in a set, and their list.
 use Rattle.std.specs.Prelude.{◌≡◌, ◌≢◌, ℕ, zero, suc, ◌<◌, ◌≤◌, ◌+◌, ℤ, pos, ◌⊎◌, List, [], ◌∷◌, ◌++◌, length, map, take, slice_index_or}
-use Rattle.std.specs.Prelude.{◌-◌, Result, Ok, Err, IfOk, OnOk}
+use Rattle.std.specs.Prelude.{◌-◌, ◌^◌, ◌+ℤ◌, ◌<ℤ◌, false, Result, Ok, Err, IfOk, OnOk}
 use Rattle.std.specs.List.{Contains, All}
 use Rattle.std.specs.Ordering.{MatchOrdering, match_ordering, nat_cmp, ordering_then}
 use Rattle.std.specs.Cmp.{ranks}
@@ -9,6 +9,7 @@ use Rattle.std.specs.BTreeSet.{insert_key}
 use Rattle.std.specs.declared.cmp.Ordering.{Ordering}
 use Rattle.std.specs.declared.cmp.Ordering.TheVariants.{Less, Equal, Greater}
 use Rattle.std.proofs.Common.{arith, sym, ◌∙◌, ap, ap₂, refl, inl, inr, subst, length-take-le, length-append, append_assoc}
+use Rattle.std.proofs.lemmas.Int.{ints}
 use Rattle.std.proofs.lemmas.List.{get_or-take, get_or-map, get_or_append_left, length-map, append-nil, map-append}
 use Rattle.std.proofs.lemmas.List.Elements.{Contains-push, Contains-append_left, Contains-push_cases}
 use Rattle.exact_forms.specs.Vectors.{ComesBefore}
@@ -16,11 +17,14 @@ use Rattle.symmetric_matrix.specs.Lists.{IsVectorList, CanFollow}
 use Rattle.symmetric_matrix.proofs.Lists.{list_push}
 use Rattle.symmetric_matrix.proofs.Runs.{Contains-map, Contains-map_back}
 use Rattle.unimodular_cone.specs.Paths.{Path}
-use Rattle.unimodular_cone.specs.Cones.{Matrix, value, cone_at}
+use Rattle.unimodular_cone.specs.Cones.{Matrix, child, value, cone_at}
+use Rattle.unimodular_cone.specs.declared.WideEntry.TheVariants.{Coordinate}
 use Rattle.unimodular_cone.specs.Answer.{IsListOf}
-use Rattle.unimodular_cone.specs.Shown.{ShownCone, shown_gram, shown_coordinate, shown_generators, IsWithinLimits, IsConeAt}
+use Rattle.unimodular_cone.specs.Mediant.{FitsWith, IsMediantOf}
+use Rattle.unimodular_cone.specs.Shown.{ShownCone, shown_gram, shown_coordinate, shown_generators, IsWithinLimits, IsConeAt, IsChild}
 use Rattle.exact_forms.proofs.Vectors.{contains_cons, contains_here, contains_there, vector_decided}
-use Rattle.unimodular_cone.proofs.ShownLaws.{coordinate_within}
+use Rattle.exact_forms.proofs.Slacks.{replaced_here}
+use Rattle.unimodular_cone.proofs.ShownLaws.{at_most, coordinate_within}
 use Rattle.search_core.specs.Fair.{Judged, IsSameGenerator}
 use Rattle.search_core.specs.Noting.{NamesNew, AddsNew, One}
 use Rattle.search_core.specs.Attaining.{IsPadded, IsKeyOf, IsWithKey, AddsAttaining, HasGenerators, IsKey, AreKeys, IsVectorsOf, ListsGenerators}
@@ -145,6 +149,29 @@ key_padded c k n m x w e f lk size same rest = record {
   small = λ p lp. rw (same p (omega arith)) (coordinate_within c k p w lk lp);
   rest = λ p lp. rest p (omega arith);
 }
+
+same_pos : (a b : ℕ) → pos a ≡ pos b → a ≡ b
+same_pos a b e = grind arith
+
+-- the mediant of a split, which is generator r of a child that fits, has its coordinates for a key
+module _ (c : ShownCone) (r s : ℕ) (xs : List ℕ) (lr : r < c.size) (m : IsMediantOf c r s xs) where
+  abbrev sum : ℕ → ℤ
+  sum p = shown_generators c r p +ℤ shown_generators c s p
+
+  sum_is : (p : ℕ) → p < c.size → pos (slice_index_or xs p 0) ≡ child (shown_generators c) r s r p
+  sum_is p lp = ap pos (m.sums p lp) ∙ ap (λ (f : ℕ → ℤ). f p) (sym (replaced_here (shown_generators c) r sum r refl))
+
+  pub mediant_small : FitsWith c r s → (p : ℕ) → p < c.size → slice_index_or xs p 0 ≤ 2 ^ 62
+  mediant_small fits p lp = at_most (slice_index_or xs p 0) (2 ^ 62)
+      (λ over. fits (Coordinate (suc r) (suc p)) (lr, lp, subst (λ (z : ℤ). pos (2 ^ 62) <ℤ z) (sum_is p lp) (omega (arith, ints, over))))
+
+  pub mediant_key : (d : ShownCone) → FitsWith c r s → IsChild c r s false d → IsKeyOf d r xs
+  mediant_key d fits h = record {
+    size = m.count;
+    same = λ p lp. let l : p < c.size = rw (← h.size) lp in sum_is p l ∙ sym (h.generators r p lr l);
+    small = λ p lp. mediant_small fits p (rw (← h.size) lp);
+    rest = λ p le. m.rest p (rw (← h.size) le);
+  }
 
 below_or_last : (k m : ℕ) → k < m + 1 → (k < m) ⊎ (m ≡ k)
 below_or_last k m l = grind arith

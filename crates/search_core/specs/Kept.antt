@@ -2,7 +2,8 @@
 --
 --     IsNeededFate fate          it is low, or an end
 --     IsUnneededFate fate        it is neither
---     IsConeKept m d word c fate old list   list is old with the judgement of c, or old where it is unneeded
+--     HasOneMore m d word c old list   list is old with the judgement of c
+--     IsConeKept m d word c fate old list   it is, or it is old where that is unneeded
 use Rattle.std.specs.Prelude.{◌≡◌, ◌⊎◌, ℕ, List, [], ◌∷◌, ◌++◌}
 use Rattle.unimodular_cone.specs.declared.Mode.{Mode}
 use Rattle.unimodular_cone.specs.Shown.{ShownCone}
@@ -16,6 +17,8 @@ pub record IsUnneededFate (fate : Fate) : Type 0 where
   pub not_low : ¬ IsLowFate fate
   pub no_end : ¬ IsEndFate fate
 
+abbrev pub HasOneMore : Mode → ℕ → ℕ → ShownCone → List Judged → List Judged → Type 0
+HasOneMore m d word c old new = (j : Judged) × IsJudgementOf m c d word j × (new ≡ old ++ j ∷ [])
+
 abbrev pub IsConeKept : Mode → ℕ → ℕ → ShownCone → Fate → List Judged → List Judged → Type 0
-IsConeKept m d word c fate old new =
-    ((j : Judged) × IsJudgementOf m c d word j × (new ≡ old ++ j ∷ [])) ⊎ ((new ≡ old) × IsUnneededFate fate)
+IsConeKept m d word c fate old new = HasOneMore m d word c old new ⊎ ((new ≡ old) × IsUnneededFate fate)

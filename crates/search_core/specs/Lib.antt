@@ -13,3 +13,4 @@ pub mod Kept
 pub mod Noting
 pub mod Lowering
 pub mod Way
+pub mod Next

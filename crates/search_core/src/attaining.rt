@@ -64,7 +64,7 @@ pub(crate) fn add_attaining<C: ConeRead>(
     let n = c.n();
     for k in 0..n {
         if c.gram(k + 1, k + 1) == i128::from(minimum) {
-            found.insert(key_of(c, k + 1))?;
+            found.insert(&key_of(c, k + 1))?;
         }
     }
     Ok(())

@@ -44,16 +44,27 @@ impl KeySet {
     }
 
     /// Puts a key into the set.
-    pub(crate) fn insert(&mut self, key: Key) -> Result<(), AllocError>
-        requires { slice_index_or key 0 0 ≤ 2 ^ 62 }
-        ensures { OnOk result (IsWithKey self.old.keys key self.new.keys) }
+    #[inline(always)]
+    pub fn insert(&mut self, key: &Key) -> Result<(), AllocError>
+        requires { slice_index_or key.now 0 0 ≤ 2 ^ 62 }
+        ensures { OnOk result (IsWithKey self.old.keys key.now self.new.keys) }
     {
-        let place = place_of_key(&key);
-        if self.table[place] == key {
+        let place = place_of_key(key);
+        if self.table[place] == *key {
             return Ok(());
         }
-        self.set.insert(key)?;
-        self.table[place] = key;
+        self.insert_at(place, key)
+    }
+
+    /// Puts a key into the set, and into a place of the table. A call of its own, so that the loops that put keys which are mostly in
+    /// the table don't hold the set's code.
+    #[inline(never)]
+    fn insert_at(&mut self, place: usize, key: &Key) -> Result<(), AllocError>
+        requires { place < 64 }
+        ensures { OnOk result (IsWithKey self.old.keys key.now self.new.keys) }
+    {
+        self.set.insert(*key)?;
+        self.table[place] = *key;
         Ok(())
     }
 
@@ -87,12 +98,13 @@ fn blank_table() -> [Key; 64]
     [[u64::MAX; 8]; 64]
 }
 
-/// The place of a key in a table of 64. Any would do.
+/// The place of a key in a table of 64. Any would do: the first six numbers tell most keys apart.
+#[inline(always)]
 fn place_of_key(key: &Key) -> usize
     ensures { result < 64 }
 {
     let mut mixed = 0u64;
-    for number in key {
+    for number in &key[..6] {
         mixed = mixed.wrapping_mul(5).wrapping_add(*number);
     }
     (mixed % 64) as usize

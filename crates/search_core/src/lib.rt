@@ -15,6 +15,7 @@ mod lowering;
 mod machine;
 #[cfg(test)]
 mod machine_tests;
+mod next;
 mod noting;
 mod scan;
 mod searcher;
@@ -35,6 +36,7 @@ pub use law::{
 };
 pub use lowering::lowering_fate;
 pub use machine::Machine;
+pub use next::{Next, keep_next, lowering_next};
 pub use noting::{NewGenerators, note_new};
 pub use searcher::Searcher;
 pub use settling::{

@@ -51,7 +51,7 @@ fn add_new<C: ConeRead>(
     match fresh {
         NewGenerators::Each => add_attaining(c, value, found),
         NewGenerators::One { which } if c.gram(which, which) == i128::from(value) => {
-            found.insert(key_of(c, which))
+            found.insert(&key_of(c, which))
         }
         NewGenerators::One { .. } | NewGenerators::NoOne => Ok(()),
     }

@@ -1,6 +1,6 @@
-//! The root of a small matrix, with numbers that were worked out by hand.
+//! The root of a small matrix, with numbers that were worked out by hand, and a set of keys.
 
-use crate::{Fate, Judged, Mode, code, judge, judgement};
+use crate::{Fate, Judged, KeySet, Mode, code, judge, judgement};
 use std::test::Fail;
 use symmetric_matrix::SymInt;
 use unimodular_cone::{Path, root};
@@ -20,5 +20,20 @@ fn fate_of_a_root(rt: HostRuntime) -> Result<(), Fail> {
     let least = 2;
     let expected = Judged { path, fate, least };
     assert_eq!(rt; judgement(Mode::Least, &cone, 200, word), expected);
+    Ok(())
+}
+
+#[test]
+fn key_put_twice(rt: HostRuntime) -> Result<(), Fail> {
+    // The keys have the same first six numbers, and so the same place in the table.
+    let key = [1, 2, 3, 4, 5, 6, 7, 8];
+    let other = [1, 2, 3, 4, 5, 6, 8, 7];
+    let mut found = KeySet::new(rt.alloc());
+    found.insert(&key)?;
+    found.insert(&key)?;
+    assert_eq!(rt; found.len(), 1);
+    found.insert(&other)?;
+    found.insert(&key)?;
+    assert_eq!(rt; found.len(), 2);
     Ok(())
 }

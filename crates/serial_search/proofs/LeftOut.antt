@@ -2,7 +2,7 @@
 --
 -- | values_of_closed | the values of a closed cone are at least the bound |
 -- | left_out | a closed cone of the stack is judged, and gone |
--- | none_new | a new generator whose value is over the bound is none that is new |
+-- | none_new | a new generator of the top whose value is over the bound, or that is noted, is none that is new |
 -- | fewer_without, deep_without | fewer cones are left without one of a list, and they are as deep |
 use Rattle.std.specs.Prelude.{◌≡◌, ℕ, zero, suc, ◌<◌, ◌≤◌, ◌-◌, ◌^◌, min, ℤ, pos, negsuc, ◌≤ℤ◌, ◌<ℤ◌, ◌-ℤ◌, ◌⊎◌}
 use Rattle.std.specs.Prelude.{Bool, true, false, cond, eqb, List, [], ◌∷◌, ◌++◌, length, map}
@@ -16,6 +16,7 @@ use Rattle.exact_forms.specs.Slacks.{shortfall, slack}
 use Rattle.exact_forms.specs.Sums.{sum_to}
 use Rattle.exact_forms.proofs.Sums.{sum_to_nonneg}
 use Rattle.exact_forms.proofs.Slacks.{shortfall_nonneg, slack_is_diagonal_less}
+use Rattle.exact_forms.proofs.Lists.{top_in}
 use Rattle.exact_forms.proofs.Vectors.{contains_cons, contains_here, contains_there}
 use Rattle.unimodular_cone.specs.declared.Mode.{Mode}
 use Rattle.unimodular_cone.specs.declared.Mode.TheVariants.{Sign, Least}
@@ -28,16 +29,18 @@ use Rattle.search_core.specs.declared.Fate.TheVariants.{Closed}
 use Rattle.search_core.specs.declared.Judged.{Judged}
 use Rattle.search_core.specs.declared.NewGenerators.TheVariants.{One, NoOne}
 use Rattle.search_core.specs.Fair.{code, code_of, start_word, bound_under, least_value, IsFate, IsLowFate, IsEndFate, IsSameGenerator}
+use Rattle.search_core.specs.Attaining.{IsPadded}
 use Rattle.search_core.specs.Judging.{IsLowShown, IsClosedShown}
 use Rattle.search_core.specs.Machine.{IsKept, alone, times}
+use Rattle.search_core.specs.Noting.{HasKey}
 use Rattle.search_core.proofs.LeastValues.{least_value_attained}
 use Rattle.search_core.proofs.SameGenerators.{same_value}
 use Rattle.search_core.proofs.Times.{times-append, times_cons}
 use Rattle.search_core.proofs.Serial.{alone_turn, reordered, same_judged}
 use Rattle.serial_search.specs.Turns.{IsOnTop}
-use Rattle.serial_search.specs.Searching.{path_of, IsCovered, IsNewOnTop, IsOfJudged, IsSearching}
+use Rattle.serial_search.specs.Searching.{path_of, IsCovered, IsNewOnTop, IsOfSearched, IsSearching}
 use Rattle.serial_search.proofs.Tops.{AreDeep, same_top}
-use Rattle.serial_search.proofs.Stacks.{cones_left, left-append}
+use Rattle.serial_search.proofs.Stacks.{cones_left, left-append, still_searched, has_key_same}
 
 -- ---- no slack is over the value on the diagonal
 slack_below : (n : ℕ) (g : Matrix) (i : ℕ) → slack n g i ≤ℤ g i i
@@ -92,6 +95,17 @@ still_there front back c x there = by (Contains-append_cases front back x there)
 stands : (front back : List ShownCone) (c : ShownCone) → Contains (front ++ c ∷ back) c
 stands front back c = Contains-append_right front (c ∷ back) c (contains_here c back)
 
+still_or_this : (front back : List ShownCone) (c x : ShownCone) → Contains (front ++ c ∷ back) x → Contains (front ++ back) x ⊎ (c ≡ x)
+still_or_this front back c x there = by (Contains-append_cases front (c ∷ back) x there)
+  where
+    behind : ((c ≡ x) ⊎ Contains back x) → Contains (front ++ back) x ⊎ (c ≡ x)
+    behind (inl e) = inr e
+    behind (inr k) = inl (Contains-append_right front back x k)
+
+    by : (Contains front x ⊎ Contains (c ∷ back) x) → Contains (front ++ back) x ⊎ (c ≡ x)
+    by (inl k) = inl (Contains-append_left front back x k)
+    by (inr k) = behind (contains_cons c back x k)
+
 -- ---- a closed cone of the stack is judged under the same word
 module _ (m : Mode) (n : ℕ) (q : Matrix) (d : ℕ) (front back : List ShownCone) (c : ShownCone) (word : ℕ) (kept : List Judged) (keys : List (List ℕ))
     (some : 1 ≤ n) (h : IsSearching m n q d (front ++ c ∷ back) word NoOne kept keys)
@@ -144,9 +158,6 @@ module _ (m : Mode) (n : ℕ) (q : Matrix) (d : ℕ) (front back : List ShownCon
       by (inl is) = is
       by (inr t) = absurd t.is_new
 
-  of_more : (x : List ℕ) → IsOfJudged n q word h.all x → IsOfJudged n q word (j ∷ h.all) x
-  of_more x (p, k, there, l, padded, attains) = (p, k, contains_there j h.all p there, l, padded, attains)
-
   low : (p : Judged) → ((j ≡ p) ⊎ Contains h.all p) → IsLowFate p.fate → Contains kept p
   low p (inl e) is = absurd (subst (λ (r : Judged). IsLowFate r.fate) (sym e) is)
   low p (inr there) is = h.has.low p there is
@@ -169,30 +180,48 @@ module _ (m : Mode) (n : ℕ) (q : Matrix) (d : ℕ) (front back : List ShownCon
       ends = λ p there. ends p (contains_cons j h.all p there);
     };
     noted = record {
-      each = λ over x there. of_more x (h.noted.each over x there);
+      each = λ over x there.
+          still_searched n q word h.all (front ++ c ∷ back) (front ++ back) c j refl (still_or_this front back c) x (h.noted.each over x there);
       covered = λ p k there. all_covered p k (contains_cons j h.all p there);
     };
     stack_is = record { waiting = λ x there k l. inl (covered x (still_there front back c x there) k l); named = tt };
   }
 
--- ---- a new generator whose value is over the bound needs no note
-module _ (m : Mode) (n : ℕ) (q : Matrix) (d : ℕ) (stack rest : List ShownCone) (top : ShownCone) (word i : ℕ) (kept : List Judged) (keys : List (List ℕ))
+-- ---- a new generator of the top whose value is over the bound needs no note, and one that is noted needs none again
+module _ (m : Mode) (n : ℕ) (q : Matrix) (d : ℕ) (stack rest : List ShownCone) (top : ShownCone) (word i : ℕ) (kept : List Judged) (keys keys' : List (List ℕ))
     (h : IsSearching m n q d stack word (One i) kept keys) (on_top : IsOnTop top rest stack)
-    (over : 256 < word → (l : ℕ) → i ≡ suc l → l < n → bound_under Least word <ℤ value n q (cone_at n q top.path) l) where
-  pub none_new : IsSearching m n q d stack word NoOne kept keys
+    (seen : 256 < word → (l : ℕ) → i ≡ suc l → l < n → (bound_under Least word <ℤ value n q (cone_at n q top.path) l) ⊎ HasKey n q keys' top.path l)
+    (more : (x : List ℕ) → Contains keys x → Contains keys' x)
+    (only : 256 < word → (x : List ℕ) → Contains keys' x → Contains keys x
+    ⊎ ((l : ℕ) × (l < n) × IsPadded n x (cone_at n q top.path l) × (value n q (cone_at n q top.path) l ≡ bound_under Least word))) where
+  -- the keys that were noted are so still
+  still_covered : (path : Path) (k : ℕ) → IsCovered n q word keys path k → IsCovered n q word keys' path k
+  still_covered path k is high below = let has = is high below in (has.0, more has.0 has.1, has.2)
+
+  now_covered : (x : ShownCone) (k : ℕ) → (IsCovered n q word keys x.path k ⊎ IsNewOnTop n q stack (One i) x.path k) → IsCovered n q word keys' x.path k
+  now_covered x k (inl is) high below = still_covered x.path k is high below
+  now_covered x k (inr t) high below = by (seen high t.l t.is_new same.range)
+    where
+      same : IsSameGenerator n q x.path k top.path t.l
+      same = subst (λ (c : ShownCone). IsSameGenerator n q x.path k c.path t.l) (same_top stack t.rest rest t.top top t.on_top on_top) t.same
+
+      by : ((bound_under Least word <ℤ value n q (cone_at n q top.path) t.l) ⊎ HasKey n q keys' top.path t.l) → HasKey n q keys' x.path k
+      by (inl past) = absurd (omega (arith, ints, below, same_value n q x.path top.path k t.l same))
+      by (inr has) = has_key_same n q keys' x.path top.path k t.l same has
+
+  each : 256 < word → (x : List ℕ) → Contains keys' x → IsOfSearched n q word h.all stack x
+  each high x there = by (only high x there)
+    where
+      by : (Contains keys x ⊎ ((l : ℕ) × (l < n) × IsPadded n x (cone_at n q top.path l) × (value n q (cone_at n q top.path) l ≡ bound_under Least word)))
+          → IsOfSearched n q word h.all stack x
+      by (inl old) = h.noted.each high x old
+      by (inr (l, range, padded, attains)) = (top.path, l, inr (top, top_in stack rest top on_top, refl), range, padded, attains)
+
+  pub none_new : IsSearching m n q d stack word NoOne kept keys'
   none_new = record {
     all = h.all;
     plain = h.plain;
     has = h.has;
-    noted = h.noted;
-    stack_is = record { waiting = λ x there k l. inl (covered x k (h.stack_is.waiting x there k l)); named = tt };
+    noted = record { each = each; covered = λ p k there l. still_covered p.path k (h.noted.covered p k there l) };
+    stack_is = record { waiting = λ x there k l. inl (now_covered x k (h.stack_is.waiting x there k l)); named = tt };
   }
-    where
-      covered : (x : ShownCone) (k : ℕ) → (IsCovered n q word keys x.path k ⊎ IsNewOnTop n q stack (One i) x.path k) → IsCovered n q word keys x.path k
-      covered x k (inl is) high below = is high below
-      covered x k (inr t) high below = absurd (
-          let same = same_value n q x.path top.path k t.l
-          (subst (λ (c : ShownCone). IsSameGenerator n q x.path k c.path t.l) (same_top stack t.rest rest t.top top t.on_top on_top) t.same) in
-          let past : bound_under Least word <ℤ value n q (cone_at n q top.path) t.l = over high t.l t.is_new t.same.range in
-          omega (arith, ints, below, same)
-          )

@@ -4,6 +4,7 @@
 -- | plain_within | what such a search knows of its top |
 -- | search_starts, search_step, search_ends | the search that keeps what is needed, and notes what attains the bound |
 -- | top_within, top_named, top_others | what such a search knows of its top |
+-- | still_searched | the key of a cone that is judged or waits is so still, once a cone is judged |
 use Rattle.std.specs.Prelude.{◌≡◌, ◌≢◌, ℕ, zero, suc, ◌<◌, ◌≤◌, ◌+◌, ◌-◌, ◌*◌, ◌^◌, min, ℤ, pos, ◌≤ℤ◌, ◌⊎◌, Bool, true, false, Some}
 use Rattle.std.specs.Prelude.{List, [], ◌∷◌, ◌++◌, length, map}
 use Rattle.std.specs.List.{Contains}
@@ -27,7 +28,7 @@ use Rattle.search_core.specs.declared.Judged.{Judged}
 use Rattle.search_core.specs.Fair.{code, start_word, bound_under, IsSplit, IsLowFate, IsEndFate, IsFate, IsFair, IsSameGenerator}
 use Rattle.search_core.specs.declared.NewGenerators.{NewGenerators}
 use Rattle.search_core.specs.declared.NewGenerators.TheVariants.{Each, One, NoOne}
-use Rattle.search_core.specs.Attaining.{IsKeyOf}
+use Rattle.search_core.specs.Attaining.{IsPadded, IsKeyOf}
 use Rattle.search_core.specs.Kept.{IsUnneededFate, IsConeKept}
 use Rattle.search_core.specs.Noting.{IsNew, NamesNew, new_after, AreRemembered, AddsToNoted, HasKey, IsFairNoted}
 use Rattle.search_core.specs.Lowering.{IsNotUnder, AreOthersOver, HasOthersOver}
@@ -41,7 +42,7 @@ use Rattle.search_core.proofs.Keys.{padded_at, padded_same, same_key}
 use Rattle.search_core.proofs.SameGenerators.{same_itself, same_value, first_other, second_other, second_mediant}
 use Rattle.search_core.proofs.Serial.{alone_start, alone_end, stacked, stack_turn}
 use Rattle.serial_search.specs.Turns.{IsOnTop, AreChildrenOn, AreStacked}
-use Rattle.serial_search.specs.Searching.{path_of, IsSearchedPlainly, IsCovered, IsNewOnTop, IsOfJudged, HasNoted, IsStack, IsSearching}
+use Rattle.serial_search.specs.Searching.{path_of, IsSearchedPlainly, IsCovered, IsNewOnTop, IsSearched, IsOfSearched, HasNoted, IsStack, IsSearching}
 use Rattle.serial_search.proofs.Tops.{same_top}
 
 -- the most cones that can still come
@@ -112,6 +113,16 @@ fewer_above d below new stack fewer = omega (arith, fewer, left-append d below n
 -- ---- the cones of a new stack
 in_front : (stack front : List ShownCone) (cone : ShownCone) → IsOnTop cone front stack → (c : ShownCone) → Contains front c → Contains stack c
 in_front stack front cone popped c there = subst (λ (s : List ShownCone). Contains s c) (sym popped) (Contains-append_left front (cone ∷ []) c there)
+
+-- the cones below the top stay
+stays_below : (cone : ShownCone) (f : Fate) (front new : List ShownCone) → AreStacked cone f front new → (c : ShownCone) → Contains front c → Contains new c
+stays_below cone (Split a b w) front new s c there =
+    subst (λ (x : List ShownCone). Contains x c) (sym s.stack) (Contains-append_left front (s.second ∷ s.first ∷ []) c there)
+stays_below cone (Closed w) front new s c there = subst (λ (x : List ShownCone). Contains x c) (sym s) there
+stays_below cone (Low k) front new s c there = subst (λ (x : List ShownCone). Contains x c) (sym s) there
+stays_below cone (Dropped w) front new s c there = subst (λ (x : List ShownCone). Contains x c) (sym s) there
+stays_below cone (AtLimit w) front new s c there = subst (λ (x : List ShownCone). Contains x c) (sym s) there
+stays_below cone (Wide w a) front new s c there = subst (λ (x : List ShownCone). Contains x c) (sym s) there
 
 each_new : (cone : ShownCone) (i j : ℕ) (front new : List ShownCone) (s : AreChildrenOn cone i j front new) (P : ShownCone → Type 0)
     → ((c : ShownCone) → Contains front c → P c) → P s.second → P s.first → (c : ShownCone) → Contains new c → P c
@@ -240,13 +251,27 @@ large_word_is_least Sign n q word over le = absurd (omega arith)
 large_word_is_least Least n q word over le = refl
 
 -- a generator whose key is noted attains the bound
-key_attains : (n : ℕ) (q : Matrix) (word : ℕ) (all : List Judged) (keys : List (List ℕ)) → HasNoted n q word all keys → 256 < word → (path : Path) (k : ℕ)
-    → HasKey n q keys path k → value n q (cone_at n q path) k ≡ bound_under Least word
-key_attains n q word all keys h over path k (x, there, padded) =
-    let (j, l, judged, range, other, attains) = h.each over x there in
-    sym (same_value n q path j.path k l (same_key n q path j.path k l x range padded other)) ∙ attains
+key_attains : (n : ℕ) (q : Matrix) (word : ℕ) (all : List Judged) (stack : List ShownCone) (keys : List (List ℕ)) → HasNoted n q word all stack keys
+    → 256 < word → (path : Path) (k : ℕ) → HasKey n q keys path k → value n q (cone_at n q path) k ≡ bound_under Least word
+key_attains n q word all stack keys h over path k (x, there, padded) =
+    let (at, l, searched, range, other, attains) = h.each over x there in
+    sym (same_value n q path at k l (same_key n q path at k l x range padded other)) ∙ attains
 
-has_key_same : (n : ℕ) (q : Matrix) (keys : List (List ℕ)) (path other : Path) (k l : ℕ) → IsSameGenerator n q path k other l
+-- a cone of the stack is judged, and the others stay
+pub still_searched : (n : ℕ) (q : Matrix) (word : ℕ) (all : List Judged) (stack new : List ShownCone) (cone : ShownCone) (j : Judged) → j.path ≡ cone.path
+    → ((c : ShownCone) → Contains stack c → Contains new c ⊎ (cone ≡ c)) → (x : List ℕ) → IsOfSearched n q word all stack x
+    → IsOfSearched n q word (j ∷ all) new x
+still_searched n q word all stack new cone j is stay x (path, k, searched, range, padded, attains) = (path, k, by searched, range, padded, attains)
+  where
+    of_stack : (c : ShownCone) → c.path ≡ path → (Contains new c ⊎ (cone ≡ c)) → IsSearched (j ∷ all) new path
+    of_stack c e (inl there) = inr (c, there, e)
+    of_stack c e (inr this) = inl (j, contains_here j all, is ∙ ap path_of this ∙ e)
+
+    by : IsSearched all stack path → IsSearched (j ∷ all) new path
+    by (inl (p, there, e)) = inl (p, contains_there j all p there, e)
+    by (inr (c, there, e)) = of_stack c e (stay c there)
+
+pub has_key_same : (n : ℕ) (q : Matrix) (keys : List (List ℕ)) (path other : Path) (k l : ℕ) → IsSameGenerator n q path k other l
     → HasKey n q keys other l → HasKey n q keys path k
 has_key_same n q keys path other k l s (x, there, p) = (x, there, padded_same n x (cone_at n q other l) (cone_at n q path k) s.same p)
 
@@ -268,7 +293,7 @@ module _ (m : Mode) (n : ℕ) (q : Matrix) (d : ℕ) (stack rest : List ShownCon
           → IsNotUnder word (value n q (cone_at n q path) k)
       by (inl u) = u
       by (inr b) =
-          let e : value n q (cone_at n q path) k ≡ bound_under Least word = key_attains n q word h.all keys h.noted over path k (covered over b) in
+          let e : value n q (cone_at n q path) k ≡ bound_under Least word = key_attains n q word h.all stack keys h.noted over path k (covered over b) in
           omega (arith, ints)
 
   others_over : 256 < word → (m ≡ Least) × AreOthersOver cone fresh word
@@ -320,11 +345,24 @@ pub search_ends : (m : Mode) (n : ℕ) (q : Matrix) (d : ℕ) (stack : List Show
     (keys : List (List ℕ)) → stack ≡ [] → IsSearching m n q d stack word fresh kept keys → IsFairNoted m n q d kept keys word
 search_ends m n q d stack word fresh kept keys e h = record {
   ends = record { all = h.all; fair = plain_ends m n q d stack word h.all e h.plain; has = h.has };
-  noted = λ over. record { each = h.noted.each over; all = λ j k c least l val. h.noted.covered j k c l over (at_most _ _ val) };
+  noted = λ over. record { each = λ x c. judged x (h.noted.each over x c); all = λ j k c least l val. h.noted.covered j k c l over (at_most _ _ val) };
 }
   where
     at_most : (a b : ℤ) → a ≡ b → a ≤ℤ b
     at_most a b e = omega (arith, ints)
+
+    judged : (x : List ℕ) → IsOfSearched n q word h.all stack x
+        → (j : Judged) × (k : ℕ) × Contains h.all j × (k < n) × IsPadded n x (cone_at n q j.path k)
+        × (value n q (cone_at n q j.path) k ≡ bound_under Least word)
+    judged x (path, k, inl (j, there, same), range, padded, attains) = (
+      j,
+      k,
+      there,
+      range,
+      subst (λ (p : Path). IsPadded n x (cone_at n q p k)) (sym same) padded,
+      subst (λ (p : Path). value n q (cone_at n q p) k ≡ bound_under Least word) (sym same) attains,
+    )
+    judged x (path, k, inr (c, there, same), range, padded, attains) = absurd (nothing_in c (subst (λ (s : List ShownCone). Contains s c) e there))
 
 -- ---- one turn
 module _ (m : Mode) (n : ℕ) (q : Matrix) (d : ℕ) (stack front new : List ShownCone) (cone : ShownCone) (word lower : ℕ) (fresh : NewGenerators) (f : Fate)
@@ -417,7 +455,7 @@ module _ (m : Mode) (n : ℕ) (q : Matrix) (d : ℕ) (stack front new : List Sho
 
       by : AreRemembered word lower keys notes.left → HasKey n q keys' path k
       by (inl (fell, e)) = absurd (
-          let v : value n q (cone_at n q path) k ≡ bound_under Least word = key_attains n q word h.all keys h.noted high path k has in
+          let v : value n q (cone_at n q path) k ≡ bound_under Least word = key_attains n q word h.all stack keys h.noted high path k has in
           omega (arith, ints, below)
           )
       by (inr (stayed, e)) = (has.0, (notes.adds over).kept has.0 (subst (λ (l : List (List ℕ)). Contains l has.0) (sym e) has.1), has.2)
@@ -455,27 +493,35 @@ module _ (m : Mode) (n : ℕ) (q : Matrix) (d : ℕ) (stack front new : List Sho
   covered p k (inl e) l = subst (λ (r : Judged). IsCovered n q lower keys' r.path k) e (now_covered cone.path k (h.stack_is.waiting cone cone_stands k l))
   covered p k (inr c) l = still_covered p.path k (h.noted.covered p k c l)
 
-  each : 256 < lower → (x : List ℕ) → Contains keys' x → IsOfJudged n q lower (j ∷ h.all) x
+  -- the top is judged, and the cones below it stay
+  stay : (c : ShownCone) → Contains stack c → Contains new c ⊎ (cone ≡ c)
+  stay c there = by (Contains-push_cases front cone c (subst (λ (s : List ShownCone). Contains s c) popped there))
+    where
+      by : (Contains front c ⊎ (cone ≡ c)) → Contains new c ⊎ (cone ≡ c)
+      by (inl k) = inl (stays_below cone f front new stacks c k)
+      by (inr e) = inr e
+
+  each : 256 < lower → (x : List ℕ) → Contains keys' x → IsOfSearched n q lower (j ∷ h.all) new x
   each over x there = by ((notes.adds over).only x there)
     where
       high : 256 < word
       high = let f : lower ≤ word = falls in omega arith
 
-      old : Contains notes.left x → AreRemembered word lower keys notes.left → IsOfJudged n q lower (j ∷ h.all) x
+      old : Contains notes.left x → AreRemembered word lower keys notes.left → IsOfSearched n q lower (j ∷ h.all) new x
       old c (inl (fell, e)) = absurd (nothing_in x (subst (λ (l : List (List ℕ)). Contains l x) e c))
       old c (inr (stayed, e)) =
-          let (p, k, judged, range, padded, attains) = h.noted.each high x (subst (λ (l : List (List ℕ)). Contains l x) e c) in
-          let same : lower ≡ word = (let f : lower ≤ word = falls in omega arith) in
-          (p, k, contains_there j h.all p judged, range, padded, attains ∙ ap (bound_under Least) (sym same))
+          let same : word ≡ lower = (let f : lower ≤ word = falls in omega arith) in
+          still_searched n q lower h.all stack new cone j refl stay x
+          (subst (λ (w : ℕ). IsOfSearched n q w h.all stack x) same (h.noted.each high x (subst (λ (l : List (List ℕ)). Contains l x) e c)))
 
       by : (Contains notes.left x ⊎ ((k : ℕ) × (k < cone.size) × (shown_gram cone k k ≡ pos (lower - 256)) × IsKeyOf cone k x))
-          → IsOfJudged n q lower (j ∷ h.all) x
+          → IsOfSearched n q lower (j ∷ h.all) new x
       by (inl c) = old c notes.is_left
       by (inr (k, l, e, key)) =
           let range : k < n = rw (sym at_cone.cone.size) l in
           let bound : pos (lower - 256) ≡ bound_under Least lower = omega (arith, ints) in
           let value_is : value n q (cone_at n q cone.path) k ≡ bound_under Least lower = sym (value_at n q cone.path cone at_cone k range) ∙ e ∙ bound in
-          (j, k, contains_here j h.all, range, padded_at n q cone.path cone at_cone k x range key, value_is)
+          (cone.path, k, inl (j, contains_here j h.all, refl), range, padded_at n q cone.path cone at_cone k x range key, value_is)
 
   -- a generator of the top is covered
   handed_on : (path : Path) (k : ℕ) → IsSameGenerator n q path k cone.path k → IsCovered n q lower keys' path k

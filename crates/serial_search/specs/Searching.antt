@@ -6,8 +6,10 @@
 --     IsCovered n q word keys path k   the key of generator k of the cone at path is noted, if its value is at most the bound of
 --                               the word, which is over 256
 --     IsNewOnTop n q stack new path k   generator k of the cone at path is a new one of the top
---     IsOfJudged n q word all x   the key x is that of a generator of a judged cone that attains the word's bound
---     HasNoted n q word all keys   under a word over 256 the keys are those of the generators of judged cones that attain its bound
+--     IsSearched all stack path   the cone at path is judged or waits
+--     IsOfSearched n q word all stack x   the key x is that of a generator of such a cone that attains the word's bound
+--     HasNoted n q word all stack keys   under a word over 256 each key is that of such a generator, and each generator
+--                               of a judged cone is covered
 --     IsStack n q stack word new keys   each generator of a cone on the stack is covered, or is a new one of the top
 --     IsSearching m n q d stack word new kept keys   all this of some list of judgements, of which the low ones and the ends are kept
 --     IsSearchingOver m q d cones new found   so stands the search of Q that found this, whose final word is the word so far
@@ -52,14 +54,20 @@ pub record IsNewOnTop (n : ℕ) (q : Matrix) (stack : List ShownCone) (fresh : N
   pub is_new : IsNew fresh l
   pub same : IsSameGenerator n q path k top.path l
 
--- the key is that of a generator of a judged cone that attains the word's bound
-abbrev pub IsOfJudged : ℕ → Matrix → ℕ → List Judged → List ℕ → Type 0
-IsOfJudged n q word all x = (j : Judged) × (k : ℕ) × Contains all j × (k < n) × IsPadded n x (cone_at n q j.path k)
-    × (value n q (cone_at n q j.path) k ≡ bound_under Least word)
+-- a path that is judged or waits
+abbrev pub IsSearched : List Judged → List ShownCone → Path → Type 0
+IsSearched all stack path =
+    ((j : Judged) × Contains all j × (j.path ≡ path)) ⊎ ((c : ShownCone) × Contains stack c × (c.path ≡ path))
 
--- the keys are those of the generators of judged cones that attain the word's bound
-pub record HasNoted (n : ℕ) (q : Matrix) (word : ℕ) (all : List Judged) (keys : List (List ℕ)) : Type 0 where
-  pub each : 256 < word → (x : List ℕ) → Contains keys x → IsOfJudged n q word all x
+-- the key is that of a generator of a cone that is judged or waits, which attains the word's bound
+abbrev pub IsOfSearched : ℕ → Matrix → ℕ → List Judged → List ShownCone → List ℕ → Type 0
+IsOfSearched n q word all stack x = (path : Path) × (k : ℕ) × IsSearched all stack path × (k < n)
+    × IsPadded n x (cone_at n q path k) × (value n q (cone_at n q path) k ≡ bound_under Least word)
+
+-- each key is that of such a generator, and each generator of a judged cone is covered
+pub record HasNoted (n : ℕ) (q : Matrix) (word : ℕ) (all : List Judged) (stack : List ShownCone) (keys : List (List ℕ))
+    : Type 0 where
+  pub each : 256 < word → (x : List ℕ) → Contains keys x → IsOfSearched n q word all stack x
   pub covered : (j : Judged) (k : ℕ) → Contains all j → k < n → IsCovered n q word keys j.path k
 
 -- each generator of a cone on the stack is covered, or is a new one of the top
@@ -74,7 +82,7 @@ pub record IsSearching (m : Mode) (n : ℕ) (q : Matrix) (d : ℕ) (stack : List
   pub all : List Judged
   pub plain : IsSearchedPlainly m n q d stack word all
   pub has : HasLowAndEnds all kept
-  pub noted : HasNoted n q word all keys
+  pub noted : HasNoted n q word all stack keys
   pub stack_is : IsStack n q stack word fresh keys
 
 abbrev pub IsSearchingOver : Mode → Symmetric → ℕ → List ShownCone → NewGenerators → Judgements → Type 0

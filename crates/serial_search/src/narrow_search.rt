@@ -1,21 +1,21 @@
 //! The search over narrow cones, as far as cones are narrow: from the root, or from each cone that is the first narrow one on its
 //! path. It ends without an answer where a narrow cone has a child that is not.
 
-ghost use Rattle.std.specs.Prelude.{◌≡◌, ◌≤◌, ◌<◌, ◌++◌, [], ◌∷◌, length, List, IfOk, IfSome};
+ghost use Rattle.std.specs.Prelude.{◌≡◌, ◌≤◌, ◌<◌, ◌^◌, ◌++◌, [], ◌∷◌, length, List, slice_index_or, IfOk, OnOk, IfSome, IsTrue};
 ghost use Rattle.symmetric_matrix.specs.Symmetric.{entry};
 ghost use Rattle.unimodular_cone.specs.Answer.{BoundFits};
 ghost use Rattle.unimodular_cone.specs.Cones.{Fits, unit_vectors};
 ghost use Rattle.unimodular_cone.specs.Shown.{ShownCone, IsConeAt, IsWithinLimits};
 ghost use Rattle.serial_search.specs.Found.{IsFairSearch};
 ghost use Rattle.serial_search.specs.Searching.{IsSearchingOver, IsOne};
-ghost use Rattle.serial_search.specs.OpenTurns.{new_among, IsOpenTurnOf};
-ghost use Rattle.serial_search.specs.Turns.{MayTurn, IsArenaEmptied};
+ghost use Rattle.serial_search.specs.OpenTurns.{new_among, NotesMediant, MayOpen, IsOpenTurnOf};
+ghost use Rattle.serial_search.specs.Turns.{IsArenaEmptied};
 
 use crate::mixed_search::search_from_wide;
 use crate::search::Judgements;
 use cone_arena::NarrowArena;
 use search_core::{
-    Fate, NewGenerators, bound_under, keep_fate, lowering_fate, note_new, start_word,
+    Key, KeySet, NewGenerators, Next, bound_under, keep_next, lowering_next, note_new, start_word,
 };
 use std::alloc::{AllocError, Global};
 use symmetric_matrix::SymInt;
@@ -28,25 +28,54 @@ fn new_in(made: OpenChildren, i: u8) -> NewGenerators
     ensures { result ≡ new_among made i }
 {
     match made {
-        OpenChildren::Within => NewGenerators::One { which: i },
+        OpenChildren::Below => NewGenerators::One { which: i },
         _ => NewGenerators::NoOne,
     }
 }
 
-/// Puts the children of a split top that are made in its place, child 0 last, where both are narrow. A top of any other fate is
-/// taken away. Answers which generators are new in the cone that is then on top. None where a child is not narrow.
+/// Notes the key of a mediant whose value is the bound of this word, if the word is over 256.
 #[inline(always)]
-fn turn(arena: &mut NarrowArena, mode: Mode, fate: &Fate, word: u64) -> Option<NewGenerators>
-    requires some { 0 < length arena.old.cones }
-    requires may { MayTurn arena.old fate.now }
-    ensures { IfSome result (IsOpenTurnOf mode word arena.old fate.now arena.new) }
+fn note_mediant(
+    noted: &mut KeySet,
+    attains: bool,
+    mediant: &Key,
+    word: u64,
+) -> Result<(), AllocError>
+    requires { IsTrue attains → slice_index_or mediant.now 0 0 ≤ 2 ^ 62 }
+    ensures { OnOk result (NotesMediant word attains mediant.now noted.old.keys noted.new.keys) }
 {
-    if let Fate::Split { i, j, .. } = *fate {
-        let made = arena.split_open(i, j, bound_under(mode, word))?;
-        return Some(new_in(made, i));
+    if attains && word > 256 {
+        return noted.insert(mediant);
     }
-    arena.drop_top();
-    Some(NewGenerators::NoOne)
+    Ok(())
+}
+
+/// Puts the children of a split top that are made in its place, child 0 last, where both are narrow, and notes the mediant's key if
+/// it attains the word's bound. Any other top is taken away. Answers which generators are new in the cone that is then on top. None
+/// where a child is not narrow. The key is written into `mediant` first, whatever was there.
+#[inline(always)]
+fn turn(
+    arena: &mut NarrowArena,
+    mode: Mode,
+    next: Next,
+    word: u64,
+    noted: &mut KeySet,
+    mediant: &mut Key,
+) -> Result<Option<NewGenerators>, AllocError>
+    requires some { 0 < length arena.old.cones }
+    requires may { MayOpen arena.old next }
+    ensures { IfOk result (λ r. IfSome r
+        (IsOpenTurnOf mode word arena.old next noted.old.keys arena.new noted.new.keys)) }
+{
+    let Next::Split { i, j } = next else {
+        arena.drop_top();
+        return Ok(Some(NewGenerators::NoOne));
+    };
+    let Some(opened) = arena.split_open(i, j, bound_under(mode, word), mediant) else {
+        return Ok(None);
+    };
+    note_mediant(noted, opened.attains, mediant, word)?;
+    Ok(Some(new_in(opened.made, i)))
 }
 
 /// Searches from a narrow cone, which stands alone in an arena that was made for the limit and is then empty. It is the top of
@@ -73,16 +102,17 @@ pub(crate) fn search_above(
     let _n = q.n();
     let mut word = found.final_word;
     let mut fresh = fresh;
+    let mut mediant = [0; 8];
     while arena.len() > 0 {
         let cone = arena.top();
         let before = word;
-        let fate = lowering_fate(mode, cone, limit, fresh, &mut word);
-        keep_fate(&mut found.judged, mode, cone, limit, &fate, word)?;
+        let next = lowering_next(mode, cone, limit, fresh, &mut word);
+        keep_next(&mut found.judged, mode, cone, limit, next, word)?;
         note_new(&mut found.attaining, cone, fresh, before, word)?;
-        let Some(next) = turn(arena, mode, &fate, word) else {
+        let Some(new) = turn(arena, mode, next, word, &mut found.attaining, &mut mediant)? else {
             return Ok(None);
         };
-        fresh = next;
+        fresh = new;
     }
     found.final_word = word;
     Ok(Some(fresh))

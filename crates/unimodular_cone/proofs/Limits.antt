@@ -149,7 +149,11 @@ module _ (c : ShownCone) (r s : ℕ) (xs : List ℕ) (row : List ℤ) (m : AreMe
 
 -- ---- both children at once
 pub mediant_mirror : (c : ShownCone) (r s : ℕ) (xs : List ℕ) → IsMediantOf c r s xs → IsMediantOf c s r xs
-mediant_mirror c r s xs h = record { sums = λ p l. h.sums p l ∙ swap (shown_coordinate c r p) (shown_coordinate c s p) }
+mediant_mirror c r s xs h = record {
+  count = h.count;
+  sums = λ p l. h.sums p l ∙ swap (shown_coordinate c r p) (shown_coordinate c s p);
+  rest = h.rest;
+}
   where
     swap : (a b : ℕ) → a + b ≡ b + a
     swap a b = omega arith

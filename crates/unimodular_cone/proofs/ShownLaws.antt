@@ -15,7 +15,7 @@ shown_gram_mirror c i j = by (three_ways i j)
     by (inr (inl e)) = rw e refl
     by (inr (inr h)) = rw (test_of_below j i h, test_of_at_least i j (omega arith)) refl
 
-at_most : (a b : ℕ) → ¬ (b < a) → a ≤ b
+pub at_most : (a b : ℕ) → ¬ (b < a) → a ≤ b
 at_most a b h = grind arith
 
 pub gram_within : (c : ShownCone) (i j : ℕ) → IsWithinLimits c → i < c.size → j < c.size → nat_abs (shown_gram c i j) ≤ 2 ^ 100

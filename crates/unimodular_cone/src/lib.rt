@@ -35,7 +35,7 @@ pub use law::{
 pub use mediant::children_fit;
 pub use mode::Mode;
 pub use narrow::{NarrowCone, narrow_root};
-pub use open_children::OpenChildren;
+pub use open_children::{OpenChildren, Opened};
 pub use pair_rule::pair;
 pub use path::Path;
 pub use refusal::{ConeFail, WideAt, WideEntry};

@@ -30,7 +30,7 @@ pub fn products(c: &NarrowCone, r: u8, s: u8, n: u8) -> [i64; 8]
 fn is_too_wide(x: i64) -> bool
     ensures { IsTrue result ↔ (2 ^ 59 < nat_abs x) }
 {
-    x.unsigned_abs() > 1 << 59
+    x < -(1 << 59) || x > 1 << 59
 }
 
 /// Whether the first n numbers are narrow.

@@ -1,10 +1,10 @@
 //! Narrow cones with their slacks, of whose children only those are made that a search has to see.
 
-ghost use Rattle.std.specs.Prelude.{◌≡◌, ◌≢◌, ◌≤◌, ◌<◌, ◌-◌, ◌^◌, [], ◌∷◌, ◌++◌, length, nat_eq, pos, ◌≤ℤ◌, None, IfSome, MatchOption};
+ghost use Rattle.std.specs.Prelude.{◌≡◌, ◌≢◌, ◌≤◌, ◌<◌, ◌-◌, ◌^◌, [], ◌∷◌, ◌++◌, length, nat_eq, pos, ◌≤ℤ◌, None, IfSome, IsTrue, MatchOption};
 ghost use Rattle.unimodular_cone.specs.Cones.{child_gram};
-ghost use Rattle.unimodular_cone.specs.Mediant.{AreProducts, FitsWith};
+ghost use Rattle.unimodular_cone.specs.Mediant.{AreProducts, FitsWith, IsMediantOf};
 ghost use Rattle.unimodular_cone.specs.Narrow.{HasNarrowMediant};
-ghost use Rattle.unimodular_cone.specs.OpenChildren.{AreSlacks, IsChoice, AreOpenMade};
+ghost use Rattle.unimodular_cone.specs.OpenChildren.{AreSlacks, IsOpening, AreOpenMade};
 ghost use Rattle.unimodular_cone.specs.Replacement.{IsChildWith};
 ghost use Rattle.unimodular_cone.specs.Shown.{shown_gram, IsWithinLimits, FitsOnBothSides};
 
@@ -15,10 +15,10 @@ use crate::narrow::NarrowCone;
 use crate::narrow_bound::least_value;
 use crate::narrow_pair::pair;
 use crate::narrow_sums::{are_narrow, coordinates_fit, products};
-use crate::open_children::{OpenChildren, are_at_least, open_of};
+use crate::open_children::{OpenChildren, Opened, are_at_least, is_at, open_of};
 use crate::path::Path;
 use crate::refusal::WideAt;
-use crate::slack_numbers::{child_slacks, mediant_value, slacks_of};
+use crate::slack_numbers::{child_slacks, mediant_value, put_slacks, slacks_of};
 use std::marker::Model;
 
 /// A narrow cone with its slacks, from which those of its children are made by a few additions.
@@ -63,9 +63,10 @@ impl SlackCone {
     }
 
     /// Splits the cone on the sides of the generators i and j, which count from 1, where both children are narrow. Both are made
-    /// where the mediant's value is at most the bound, else each that is not closed at the bound: child 1, with v_i + v_j in the
-    /// place of v_j, here and child 0, with v_i + v_j in the place of v_i, in `above`, or one alone here. Answers which are made.
-    /// None where a child is not narrow, and the cone is as before. No entry of either is to be over its limit.
+    /// where the mediant's value is below the bound, else each that is not closed at the bound: child 1, with v_i + v_j in the
+    /// place of v_j, here and child 0, with v_i + v_j in the place of v_i, in `above`, or one alone here. Answers which are made,
+    /// and whether the mediant's value is the bound: there `mediant` gets its coordinates, with zeros past them. None where a
+    /// child is not narrow, and the cone is as before. No entry of either is to be over its limit.
     ///
     /// Only the numbers that count are written, and no memory is taken.
     #[inline(always)]
@@ -75,7 +76,8 @@ impl SlackCone {
         i: u8,
         j: u8,
         bound: u64,
-    ) -> Option<OpenChildren>
+        mediant: &mut [u64; 8],
+    ) -> Option<Opened>
         requires first { 1 ≤ i }
         requires order { i < j }
         requires last { j ≤ self.old.size }
@@ -83,19 +85,19 @@ impl SlackCone {
         requires fits { FitsOnBothSides self.old (i - 1) (j - 1) }
         ensures narrow { MatchOption result (¬ HasNarrowMediant self.old (i - 1) (j - 1))
             (λ _. HasNarrowMediant self.old (i - 1) (j - 1)) }
-        ensures choice { IfSome result (IsChoice self.old (i - 1) (j - 1) (pos bound)) }
-        ensures made { IfSome result (λ made. AreOpenMade self.old (i - 1) (j - 1) made self.new above.new) }
+        ensures opening { IfSome result (λ o. IsOpening self.old (i - 1) (j - 1) (pos bound) o mediant.new) }
+        ensures made { IfSome result (λ o. AreOpenMade self.old (i - 1) (j - 1) o.made self.new above.new) }
         ensures kept { result ≡ None → self.new ≡ self.old }
     {
         let (r, s) = (i - 1, j - 1);
         // The mediant's value is narrow, so that no bound beyond this one tells more.
         let bound = bound.min(1 << 60) as i64;
         match self.cone.count() {
-            3 => self.split_sized(above, r, s, 3, bound),
-            4 => self.split_sized(above, r, s, 4, bound),
-            5 => self.split_sized(above, r, s, 5, bound),
-            6 => self.split_sized(above, r, s, 6, bound),
-            n => self.split_sized(above, r, s, n, bound),
+            3 => self.split_sized(above, r, s, 3, bound, mediant),
+            4 => self.split_sized(above, r, s, 4, bound, mediant),
+            5 => self.split_sized(above, r, s, 5, bound, mediant),
+            6 => self.split_sized(above, r, s, 6, bound, mediant),
+            n => self.split_sized(above, r, s, n, bound, mediant),
         }
     }
 
@@ -108,15 +110,16 @@ impl SlackCone {
         s: u8,
         n: u8,
         bound: i64,
-    ) -> Option<OpenChildren>
+        mediant: &mut [u64; 8],
+    ) -> Option<Opened>
         requires size { n ≡ self.old.size }
         requires order { r < s }
         requires last { s < n }
         requires room { length self.old.path < 200 }
         requires fits { FitsOnBothSides self.old r s }
         ensures narrow { MatchOption result (¬ HasNarrowMediant self.old r s) (λ _. HasNarrowMediant self.old r s) }
-        ensures choice { IfSome result (IsChoice self.old r s bound) }
-        ensures made { IfSome result (λ made. AreOpenMade self.old r s made self.new above.new) }
+        ensures opening { IfSome result (λ o. IsOpening self.old r s bound o mediant.new) }
+        ensures made { IfSome result (λ o. AreOpenMade self.old r s o.made self.new above.new) }
         ensures kept { result ≡ None → self.new ≡ self.old }
     {
         let _n = self.cone.count();
@@ -128,8 +131,10 @@ impl SlackCone {
         let first = child_slacks(&self.cone, &self.slacks, &products, value, r, s, n);
         let second = child_slacks(&self.cone, &self.slacks, &products, value, s, r, n);
         let made = open_of(value, &first, &second, n, bound);
+        let attains = is_at(value, bound);
+        tell_mediant(&self.cone, r, s, n, attains, mediant);
         self.make(above, &products, &first, &second, r, s, n, made);
-        Some(made)
+        Some(Opened { made, attains })
     }
 
     /// Makes the children of r and s that are to be made, both of which are narrow, by the mediant's products with the n generators
@@ -158,7 +163,7 @@ impl SlackCone {
         ensures { AreOpenMade self.old r s made self.new above.new }
     {
         match made {
-            OpenChildren::Within | OpenChildren::Both => {
+            OpenChildren::Below | OpenChildren::Both => {
                 above.become_child(&self.cone, products, first, r, s, n);
                 self.put(products, second, s, r, 1, n);
             }
@@ -194,7 +199,7 @@ impl SlackCone {
         self.cone.become_copy(parent, n);
         let coordinates = mediant_coordinates(parent, r, s, n);
         self.cone.put(&coordinates, products, r, s, 0, n);
-        self.slacks = *slacks;
+        put_slacks(&mut self.slacks, slacks, n);
     }
 
     /// Becomes its child in which the mediant of r and s takes the place of r, with a digit at the path's end.
@@ -215,7 +220,21 @@ impl SlackCone {
         let _n = self.cone.count();
         let coordinates = mediant_coordinates(&self.cone, r, s, n);
         self.cone.put(&coordinates, products, r, s, side, n);
-        self.slacks = *slacks;
+        put_slacks(&mut self.slacks, slacks, n);
+    }
+}
+
+/// Writes the coordinates of the mediant of r and s, with zeros past them, where they are wanted.
+#[inline(always)]
+fn tell_mediant(c: &NarrowCone, r: u8, s: u8, n: u8, wanted: bool, mediant: &mut [u64; 8])
+    requires size { n ≡ c.now.size }
+    requires first { r < n }
+    requires second { s < n }
+    ensures { IsTrue wanted → IsMediantOf c.now r s mediant.new }
+{
+    let _n = c.count();
+    if wanted {
+        *mediant = mediant_coordinates(c, r, s, n);
     }
 }
 

@@ -1,6 +1,6 @@
 //! The slacks of a narrow cone and of its children, in 64 bits.
 
-ghost use Rattle.std.specs.Prelude.{◌≡◌, ◌≢◌, ◌≤◌, ◌<◌, ◌^◌, nat_abs};
+ghost use Rattle.std.specs.Prelude.{◌≡◌, ◌≢◌, ◌≤◌, ◌<◌, ◌^◌, ℕ, pos, nat_abs, slice_index_or};
 ghost use Rattle.exact_forms.specs.Slacks.{shortfall};
 ghost use Rattle.unimodular_cone.specs.Cones.{child_gram};
 ghost use Rattle.unimodular_cone.specs.Mediant.{AreProducts};
@@ -22,6 +22,17 @@ pub fn slacks_of(c: &NarrowCone, n: u8) -> [i64; 8]
         slacks[usize::from(k)] = slack_of(c, k, n);
     }
     slacks
+}
+
+/// Writes the slacks of n generators over others; what is past them stays.
+#[inline(always)]
+pub fn put_slacks(into: &mut [i64; 8], from: &[i64; 8], n: u8)
+    requires { n ≤ 8 }
+    ensures { (k : ℕ) → k < n → slice_index_or into.new k (pos 0) ≡ slice_index_or from.now k (pos 0) }
+{
+    for k in 0..n {
+        into[usize::from(k)] = from[usize::from(k)];
+    }
 }
 
 /// How far a narrow number is below 0, else 0.

@@ -11,8 +11,8 @@ alone c root rest cones one is =
     sym (get_or-append_seam rest c [] c) ∙ ap (λ (s : List ShownCone). slice_index_or s (length rest) c) (sym is ∙ one)
     ∙ ap (λ (k : ℕ). slice_index_or (root ∷ []) k c) none
 
-pub split_open-made-requires-clause-can : goal.split_open-made-requires-clause-can
-split_open-made-requires-clause-can g c =
+pub split_open-opened-requires-clause-can : goal.split_open-opened-requires-clause-can
+split_open-opened-requires-clause-can g c =
     let root = c.in_ok-root.root in
     let size : c.put_alone.new.self.size ≡ 2 = c.put_alone.ensures.size ∙ c.in_ok-arena.ensures.size in
     let depth : c.put_alone.new.self.depth ≡ 2 = c.put_alone.ensures.depth ∙ c.in_ok-arena.ensures.depth in
@@ -27,6 +27,6 @@ split_open-made-requires-clause-can g c =
       short = λ d top. omega (arith, depth, short, ap (λ (x : ShownCone). length x.path) (alone d root top.0 _ c.put_alone.ensures.alone top.1));
     }
 
-pub split_open-made-requires-clause-fits : goal.split_open-made-requires-clause-fits
-split_open-made-requires-clause-fits g c =
+pub split_open-opened-requires-clause-fits : goal.split_open-opened-requires-clause-fits
+split_open-opened-requires-clause-fits g c =
     λ d top. subst (λ (x : ShownCone). FitsOnBothSides x 0 1) (sym (alone d c.in_ok-root.root top.0 _ c.put_alone.ensures.alone top.1)) c.in-None.ensures

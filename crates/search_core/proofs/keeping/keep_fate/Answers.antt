@@ -1,9 +1,9 @@
 use Rattle.std.proofs.Common.{refl, inl, inr}
 use Rattle.search_core.proofs.keeping.keep_fate.Goals as goal
 
-pub returns-in_ok-push : goal.returns-in_ok-push
-returns-in_ok-push g c = record {
-  kept = inl (c.judgement.result, c.judgement.ensures, c.in_ok-push.ensures.items);
+pub returns-in_ok-keep_judgement : goal.returns-in_ok-keep_judgement
+returns-in_ok-keep_judgement g c = record {
+  kept = inl c.in_ok-keep_judgement.ensures.kept;
   few = λ not. absurd (not c.if-is_needed.ensures);
   err = tt;
 }

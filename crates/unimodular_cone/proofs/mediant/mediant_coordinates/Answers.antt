@@ -1,5 +1,5 @@
 use Rattle.std.specs.Prelude.{◌<◌, ◌≤◌, ◌^◌, ◌+◌, ℕ}
-use Rattle.std.proofs.Common.{arith, ap₂, ◌∙◌, length-set}
+use Rattle.std.proofs.Common.{arith, ap₂, ◌∙◌, length-set, get_or-set_other}
 use Rattle.unimodular_cone.specs.Shown.{shown_coordinate}
 use Rattle.unimodular_cone.proofs.ShownLaws.{coordinate_within}
 use Rattle.exact_forms.proofs.Lists.{more_set}
@@ -22,4 +22,5 @@ loop-p-preserved g c =
           (λ (k : ℕ). shown_coordinate (g.C.ConeRead.cone c.args.c.now) c.args.r k + shown_coordinate (g.C.ConeRead.cone c.args.c.now) c.args.s k)
           c.loop-p.p c.from.result _ c.loop-p.invariant.sums (omega (arith, c.loop-p.invariant.room)) c.from.ensures
           (ap₂ (λ (a : ℕ) (b : ℕ). a + b) c.coordinate_at.ensures c.coordinate_at-in-loop-p.ensures);
+      rest = λ k l. get_or-set_other c.loop-p.sums c.from.result k _ 0 (λ e. omega (arith, e, l, c.from.ensures)) ∙ c.loop-p.invariant.rest k (omega arith);
     }

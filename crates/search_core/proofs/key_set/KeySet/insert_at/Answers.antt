@@ -5,7 +5,7 @@ use Rattle.commutative_ring.proofs.SmallCases.{same_or_not}
 use Rattle.search_core.specs.Attaining.{IsWithKey}
 use Rattle.search_core.specs.KeySets.{IsBlank}
 use Rattle.search_core.proofs.Keys.{inserts}
-use Rattle.search_core.proofs.key_set.KeySet.insert.Goals as goal
+use Rattle.search_core.proofs.key_set.KeySet.insert_at.Goals as goal
 
 -- a table with one more key of the set
 still_there : (table : List (List ℕ)) (old new : List (List ℕ)) (place : ℕ) (key : List ℕ) → place < length table → IsWithKey old key new
@@ -17,7 +17,8 @@ still_there table old new place key inside with there k l = by (same_or_not k pl
     more x (inl c) = inl (with.kept x c)
     more x (inr b) = inr b
 
-    by : ((k ≡ place) ⊎ (k ≢ place)) → Contains new (slice_index_or (slice_set table place key) k []) ⊎ IsBlank (slice_index_or (slice_set table place key) k [])
+    by : ((k ≡ place) ⊎ (k ≢ place))
+        → Contains new (slice_index_or (slice_set table place key) k []) ⊎ IsBlank (slice_index_or (slice_set table place key) k [])
     by (inl e) = inl (subst (Contains new) (sym (subst (λ (i : ℕ). slice_index_or (slice_set table place key) i [] ≡ key) (sym e)
         (get_or-set_same table place key [] inside))) with.added)
     by (inr ne) = subst (λ (x : List ℕ). Contains new x ⊎ IsBlank x) (sym (get_or-set_other table place k key [] ne))
@@ -25,10 +26,10 @@ still_there table old new place key inside with there k l = by (same_or_not k pl
 
 pub invariant_of-self-2 : goal.invariant_of-self-2
 invariant_of-self-2 c = record {
-  rows = length-set c.self.inside.table c.place_of_key-place.result c.args.key ∙ c.self.invariant.rows;
-  there = still_there c.self.inside.table c.self.inside.set.keys c.insert.new.self.keys c.place_of_key-place.result c.args.key
-      (rw c.self.invariant.rows c.place_of_key-place.ensures) (inserts _ _ c.args.key c.in_ok-insert.ensures.keys) c.self.invariant.there;
+  rows = length-set c.self.inside.table c.args.place c.args.key.now ∙ c.self.invariant.rows;
+  there = still_there c.self.inside.table c.self.inside.set.keys c.insert.new.self.keys c.args.place c.args.key.now
+      (rw c.self.invariant.rows c.requires) (inserts _ _ c.args.key.now c.in_ok-insert.ensures.keys) c.self.invariant.there;
 }
 
 pub returns : goal.returns
-returns c = rw (← c.self.view_is) (inserts _ _ c.args.key c.in_ok-insert.ensures.keys)
+returns c = rw (← c.self.view_is) (inserts _ _ c.args.key.now c.in_ok-insert.ensures.keys)
